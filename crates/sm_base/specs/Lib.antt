@@ -1,0 +1,5 @@
+pub mod Bytes
+pub mod Causes
+pub mod Memory
+pub mod Outside
+pub mod Whole

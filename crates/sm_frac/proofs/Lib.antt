@@ -1,0 +1,12 @@
+pub mod FracLemmas
+pub mod Divides
+pub mod BinaryGcd
+pub mod IntRing
+pub mod RationalRing
+pub mod RoundingLemmas
+pub mod Multiples
+pub mod OperationLemmas
+pub mod SharedDivisor
+pub mod Order
+pub mod Nearest
+pub mod CommonDenominator

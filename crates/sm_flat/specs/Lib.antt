@@ -1,0 +1,9 @@
+pub mod Literals
+pub mod Models
+pub mod Assignments
+pub mod Points
+pub mod Sums
+pub mod Sat
+pub mod Goals
+pub mod Solutions
+pub mod Limits

@@ -1,0 +1,61 @@
+//! The lists inside lines.
+ghost use Rattle.std.specs.Prelude.{◌≡◌, [], ◌∷◌, ◌++◌, OnOk, OnErr, IfOk};
+
+use std::alloc::{AllocError, Global};
+use std::marker::Model;
+
+/// A list inside a line. Contracts see it as the list of its items.
+#[derive(Drop)]
+pub struct Short<T> {
+    items: Vec<T>,
+}
+
+impl<T> Model for Short<T> {
+    ghost use Rattle.std.specs.Prelude.{List};
+    ghost use Rattle.std.specs.Coded.{coded_list};
+
+    ghost Value = { List T };
+
+    ghost coded = { coded_list T.code };
+
+    ghost view = { λ s. s.items.items };
+}
+
+impl<T> Short<T> {
+    /// The empty list.
+    pub fn new(alloc: Global) -> Short<T>
+        ensures { result ≡ [] }
+    {
+        Short {
+            items: Vec::new(alloc),
+        }
+    }
+
+    /// The items, in order.
+    pub fn as_slice(&self) -> &[T]
+        ensures { result.now ≡ self.now }
+    {
+        self.items.as_slice()
+    }
+}
+
+impl<T: Drop> Short<T> {
+    /// Appends an item.
+    pub fn push(&mut self, item: T) -> Result<(), AllocError>
+        ensures ok { OnOk result (self.new ≡ self.old ++ item ∷ []) }
+        ensures err { OnErr result (self.new ≡ self.old) }
+    {
+        self.items.push(item)?;
+        Ok(())
+    }
+}
+
+impl<T: Copy> Short<T> {
+    /// A list of the items of a slice.
+    pub fn from_slice(alloc: Global, items: &[T]) -> Result<Short<T>, AllocError>
+        ensures { IfOk result (λ s. s ≡ items.now) }
+    {
+        let items = Vec::from_slice(alloc, items)?;
+        Ok(Short { items })
+    }
+}

@@ -1,0 +1,236 @@
+-- Each allowed line keeps Sound, and an allowed verdict of a sound state is true.
+use Rattle.std.proofs.Common.{◌≡◌, ℕ, zero, suc, ◌<◌, ◌⊎◌, Bool, true, false, cond, Option, Some, None, List, [], ◌∷◌, length, map, get_or, refl, sym, ap, subst, ◌∙◌, arith, inl, inr}
+use Rattle.std.specs.Prelude.{ℤ, pos, ◌+ℤ◌, ◌*ℤ◌, ◌<ℤ◌, ◌≤ℤ◌, All, IfSome, IsSome, MatchOption, ◌==◌, slice_get, unsigned_abs}
+use Rattle.std.proofs.lemmas.Int.{ints, by_lt_z}
+use Rattle.std.proofs.lemmas.Bool.{cases_lt}
+use Rattle.std.proofs.lemmas.List.{get_or_past, length-set}
+use Rattle.std.proofs.lemmas.List.Elements.{All-head, All-tail}
+use Rattle.std.proofs.Math.IntN.{*ℤ_comm, *ℤ-zero}
+use Rattle.sm_frac.specs.Rational.{fraction, ◌<ℚ◌}
+use Rattle.sm_frac.proofs.IntRing.{*ℤ_assoc, +ℤ-*ℤ, cancel_above}
+use Rattle.sm_frac.proofs.Order.{le_from_lt, lt_le_trans, le_equal, le_lt_trans}
+use Rattle.sm_frac.specs.declared.fraction.Frac.{Frac}
+use Rattle.sm_flat.specs.declared.goal.Goal.{Goal}
+use Rattle.sm_flat.specs.declared.form.Constraint.{Constraint}
+use Rattle.sm_flat.specs.declared.form.Form.{Form}
+use Rattle.sm_flat.specs.declared.form.Form.TheVariants as form
+use Rattle.sm_flat.specs.declared.linear.Cmp.{Cmp}
+use Rattle.sm_flat.specs.declared.linear.Cmp.TheVariants.{AtMost, AtLeast, Equal}
+use Rattle.sm_flat.specs.declared.literal.Literal.{Literal}
+use Rattle.sm_flat.specs.declared.var.VarKind.{VarKind}
+use Rattle.sm_flat.specs.declared.var.VarKind.TheVariants.{Set}
+use Rattle.sm_flat.specs.Models.{FlatModel, LiesIn}
+use Rattle.sm_flat.specs.Points.{Point, point, point_of}
+use Rattle.sm_flat.specs.Assignments.{Numbers}
+use Rattle.sm_flat.specs.Sums.{sum_at}
+use Rattle.sm_flat.specs.Sat.{Compares, SatLinear, Sat}
+use Rattle.sm_flat.specs.Goals.{cost, IsBetterBy, IsBetter, HasValues}
+use Rattle.sm_flat.specs.Solutions.{Fits, Solves, SolvesOn, IsOptimum, HasNoSolution}
+use Rattle.sm_flat.specs.Limits.{IsFlat, IsGoal, AreGoals}
+use Rattle.sm_store.specs.Stores.{Extent, no_extent, extent_at, In, narrow, declared, fixed_value, least_of, IsStoreOf}
+use Rattle.sm_store.proofs.Parts.{store_declared, store_narrowed, in_declared}
+use Rattle.sm_step.specs.declared.line.Line.{Line}
+use Rattle.sm_step.specs.declared.line.Line.TheVariants as line
+use Rattle.sm_step.specs.declared.verdict.Verdict.{Verdict}
+use Rattle.sm_step.specs.declared.verdict.Verdict.TheVariants.{Optimal, Satisfied, Infeasible, Limit, Range}
+use Rattle.sm_step.specs.Verdicts.{parts_of, IsTrueOf}
+use Rattle.sm_rules.specs.declared.node.Status.{Status}
+use Rattle.sm_rules.specs.declared.node.Status.TheVariants.{Open, Half, Split}
+use Rattle.sm_rules.specs.Objectives.{costs, levels}
+use Rattle.sm_rules.specs.Floors.{EndsNode, AreFloors, numbers_of}
+use Rattle.sm_rules.specs.Nodes.{NodeView, no_node, CoversPart, Covers, TakesChild, LawfulChild}
+use Rattle.sm_rules.specs.Trees.{Tree, node_at, focus_of, close_focus, TreeSound, root_of, IsRefuted}
+use Rattle.sm_rules.specs.Violations.{fixed_at, fixed_point, AreFixed, vars_of, IsViolated}
+use Rattle.sm_rules.specs.States.{State}
+use Rattle.sm_rules.specs.Laws.{BeatsBest, IsNextBest, LawfulVerdict, AsksForAny, Allowed}
+use Rattle.sm_rules.specs.Steps.{after, start}
+use Rattle.sm_rules.specs.Sound.{Live, Sound, named, IsNodeOf, IsOf, IsTrueOn}
+use Rattle.sm_rules.proofs.Integers.{mul-lt}
+use Rattle.sm_rules.proofs.LeastCosts.{AreOrdered}
+use Rattle.sm_rules.proofs.Levels.{fraction_lt, fraction_equal, none_better}
+use Rattle.sm_rules.proofs.Moves.{node_low, close_keeps, open_keeps, root_sound, refuted_none, fewer_keeps}
+
+-- ---- better goes on
+
+better_trans : (a b c : Point) (goals : List Goal) → pos 0 <ℤ a.denominator → pos 0 <ℤ b.denominator → pos 0 <ℤ c.denominator → IsBetterBy goals a b → IsBetterBy goals b c → IsBetterBy goals a c
+better_trans a b c [] p q r one two = one
+better_trans a b c (g ∷ gs) p q r one two = go (better_trans a b c gs p q r) one two
+  where
+    less_ab : (cost g a *ℤ b.denominator) <ℤ (cost g b *ℤ a.denominator) → fraction (cost g a) (unsigned_abs a.denominator) <ℚ fraction (cost g b) (unsigned_abs b.denominator)
+    less_ab h = (fraction_lt (cost g a) (cost g b) a.denominator b.denominator p q).0 h
+
+    less_bc : (cost g b *ℤ c.denominator) <ℤ (cost g c *ℤ b.denominator) → fraction (cost g b) (unsigned_abs b.denominator) <ℚ fraction (cost g c) (unsigned_abs c.denominator)
+    less_bc h = (fraction_lt (cost g b) (cost g c) b.denominator c.denominator q r).0 h
+
+    same_ab : cost g a *ℤ b.denominator ≡ cost g b *ℤ a.denominator → fraction (cost g a) (unsigned_abs a.denominator) ≡ fraction (cost g b) (unsigned_abs b.denominator)
+    same_ab h = (fraction_equal (cost g a) (cost g b) a.denominator b.denominator p q).0 h
+
+    same_bc : cost g b *ℤ c.denominator ≡ cost g c *ℤ b.denominator → fraction (cost g b) (unsigned_abs b.denominator) ≡ fraction (cost g c) (unsigned_abs c.denominator)
+    same_bc h = (fraction_equal (cost g b) (cost g c) b.denominator c.denominator q r).0 h
+
+    less_ac : fraction (cost g a) (unsigned_abs a.denominator) <ℚ fraction (cost g c) (unsigned_abs c.denominator) → (cost g a *ℤ c.denominator) <ℤ (cost g c *ℤ a.denominator)
+    less_ac h = (fraction_lt (cost g a) (cost g c) a.denominator c.denominator p r).1 h
+
+    same_ac : fraction (cost g a) (unsigned_abs a.denominator) ≡ fraction (cost g c) (unsigned_abs c.denominator) → cost g a *ℤ c.denominator ≡ cost g c *ℤ a.denominator
+    same_ac h = (fraction_equal (cost g a) (cost g c) a.denominator c.denominator p r).1 h
+
+    go : (IsBetterBy gs a b → IsBetterBy gs b c → IsBetterBy gs a c) → IsBetterBy (g ∷ gs) a b → IsBetterBy (g ∷ gs) b c → IsBetterBy (g ∷ gs) a c
+    go rest (inl x) (inl y) = inl (less_ac (lt_le_trans _ _ _ (less_ab x) (le_from_lt _ _ (less_bc y))))
+    go rest (inl x) (inr y) = inl (less_ac (lt_le_trans _ _ _ (less_ab x) (le_equal _ _ (same_bc y.0))))
+    go rest (inr x) (inl y) = inl (less_ac (le_lt_trans _ _ _ (le_equal _ _ (same_ab x.0)) (less_bc y)))
+    go rest (inr x) (inr y) = inr (same_ac (same_ab x.0 ∙ same_bc y.0), rest x.1 y.1)
+
+-- ---- a violated constraint
+
+in_range_of : (store : List Extent) (i : ℕ) → IsSome (fixed_at store i) → i < length store
+in_range_of store i some = elim (cases_lt i (length store)) [
+  | inl lt ↦ lt
+  | inr past ↦
+      let P : Extent → Type 0 = λ e. IsSome (fixed_value e.kind e.values) in
+      let none : IsSome (fixed_value Set []) = subst P (get_or_past store i no_extent past) some in
+      absurd (cc)
+]
+
+fixed_is : (kind : VarKind) (vs : List ℤ) (n d : ℤ) → IsSome (fixed_value kind vs) → LiesIn kind vs n d → n ≡ get_or vs 0 (pos 0) *ℤ d
+fixed_is Set [] n d some h = absurd h
+fixed_is Set (v ∷ []) n d some (inl here) = here
+fixed_is Set (v ∷ []) n d some (inr there) = absurd there
+fixed_is Set (v ∷ w ∷ vs) n d some h = absurd (cc)
+
+fixed_sum : (a : Point) (store : List Extent) (ts : List (ℕ × ℤ)) → In a store → AreFixed store (map (λ t. t.0) ts) → sum_at ts a.numerator ≡ sum_at ts (fixed_point store).numerator *ℤ a.denominator
+fixed_sum a store [] h fixed = sym (*ℤ_comm (pos 0) a.denominator ∙ *ℤ-zero a.denominator)
+fixed_sum a store (t ∷ ts) h fixed =
+    let some = All-head (λ i. IsSome (fixed_at store i)) t.0 (map (λ t. t.0) ts) fixed in
+    let e = extent_at store t.0 in
+    let one = fixed_is e.kind e.values (a.numerator t.0) a.denominator some (h t.0 (in_range_of store t.0 some)) in
+    let rest = fixed_sum a store ts h (All-tail (λ i. IsSome (fixed_at store i)) t.0 (map (λ t. t.0) ts) fixed) in
+    joined t.1 (least_of e) (sum_at ts (fixed_point store).numerator) (a.numerator t.0) (sum_at ts a.numerator) a.denominator one rest
+  where
+    joined : (c k r n s d : ℤ) → n ≡ k *ℤ d → s ≡ r *ℤ d → (c *ℤ n) +ℤ s ≡ ((c *ℤ k) +ℤ r) *ℤ d
+    joined c k r n s d e f = rw (e, f, +ℤ-*ℤ (c *ℤ k) r d, *ℤ_assoc c k d) refl
+
+-- a comparison of two products with a positive factor is one of the factors
+compares_less : (c : Cmp) (x y d : ℤ) → pos 0 <ℤ d → Compares c (x *ℤ d) (y *ℤ d) → Compares c x (y *ℤ pos 1)
+compares_less AtMost x y d p h = by_lt_z y x (λ lt. let k = mul-lt y x d p lt in absurd (omega (arith, ints, k))) (λ le. omega (arith, ints))
+compares_less AtLeast x y d p h = by_lt_z x y (λ lt. let k = mul-lt x y d p lt in absurd (omega (arith, ints, k))) (λ le. omega (arith, ints))
+compares_less Equal x y d p h = let e = cancel_above x y d p h in omega (arith, ints)
+
+sat_fixed : (f : Form) (a : Point) (store : List Extent) → pos 0 <ℤ a.denominator → In a store → AreFixed store (vars_of f) → Sat f a → Sat f (fixed_point store)
+sat_fixed (form.Linear row) a store p h fixed sat =
+    compares_less row.cmp (sum_at row.terms (fixed_point store).numerator) row.bound a.denominator p (rw (fixed_sum a store row.terms h fixed) at sat)
+
+-- ---- nodes of a model's state
+
+pub all_at : (P : NodeView → Type 0) (ns : List NodeView) (k : ℕ) → All P ns → TakesChild (node_at ns k).status → P (node_at ns k)
+all_at P [] k all takes = absurd takes
+all_at P (n ∷ ns) k all takes = by_test (n.number == k) (all_at P ns k (All-tail P n ns all)) takes
+  where
+    by_test : (b : Bool) → (TakesChild (node_at ns k).status → P (node_at ns k)) → TakesChild (cond b n (node_at ns k)).status → P (cond b n (node_at ns k))
+    by_test true rest takes = All-head P n ns all
+    by_test false rest takes = rest takes
+
+pub takes_open : (status : Status) → status ≡ Open → TakesChild status
+takes_open status e = rw e tt
+
+pub ordered_of : (m : FlatModel) (store : List Extent) → IsStoreOf m store → AreOrdered store
+ordered_of m store of i lt = (of.parts i lt).ordered
+
+pub goals_known : (m : FlatModel) (store : List Extent) → IsFlat m → length store ≡ length m.vars → All (λ (g : Goal). All (λ t. t.0 < length store) g.terms) m.goals
+goals_known m store flat wide i d lt = rw wide (flat.goals.each i d lt).sum.known
+
+-- ---- the kinds of line
+
+module _ (m : FlatModel) (s : ℕ → Bool) (state : State) (of : IsOf m state) (sound : Sound m s state) where
+  -- an open focus covers what lies in its store
+  lies_covered : (a : Point) (status : Status) (store : List Extent) → status ≡ Open → CoversPart a store status → In a store
+  lies_covered a status store e h = rw e at h
+
+  closed : ((a : Point) → Live m s state.best a → Covers a (focus_of state.main) → ⊥) → Sound m s (record state { main = close_focus state.main })
+  closed none = record { best = sound.best; tree = close_keeps m (Live m s state.best) state.main none sound.tree }
+
+  violated : (k : ℕ) → (focus_of state.main).status ≡ Open → IsViolated m (focus_of state.main).store k → s k ≡ true → Sound m s (after m state (line.Violated k))
+  violated k is_open bad named =
+      closed (λ a live h.
+      let lies = lies_covered a (focus_of state.main).status (focus_of state.main).store is_open h in
+      bad.fails (sat_fixed bad.constraint.form a (focus_of state.main).store live.solves.fits.positive lies bad.fixed (live.solves.satisfies k bad.constraint named bad.is)))
+
+  beaten : BeatsBest m (focus_of state.main).floors state.best → Sound m s (after m state line.CloseFloor)
+  beaten beats =
+      closed (λ a live h. none a state.best beats sound.best live.better live.solves.fits (node_low m a state.main.nodes state.main.focus (sound.tree.floors a live) h))
+    where
+      none : (a : Point) (best : Option Numbers) → BeatsBest m (focus_of state.main).floors best → IfSome best (λ b. Solves m (point_of b)) → IfSome best (λ b. IsBetter m a (point_of b)) → Fits m a → AreFloors (numbers_of (focus_of state.main).floors) (costs m a) → ⊥
+      none a None beats solves better fits low = beats
+      none a (Some b) beats solves better fits low =
+          none_better m a (point_of b) (numbers_of (focus_of state.main).floors) fits solves.fits (λ i d lt. (of.flat.goals.each i d lt).sum.known) low beats better
+
+  opened : (parent : ℕ) (l : Literal) → TakesChild (node_at state.main.nodes parent).status → LawfulChild (node_at state.main.nodes parent).store (node_at state.main.nodes parent).status l → (id : ℕ) → Sound m s (after m state (line.Node id parent l))
+  opened parent l takes law id =
+      let old = node_at state.main.nodes parent in
+      let node = all_at (λ (n : NodeView). IsNodeOf m n) state.main.nodes parent of.nodes takes in
+      let store = store_narrowed m old.store l node.store in
+      record {
+        best = sound.best;
+        tree = open_keeps m (Live m s state.best) state.main parent l (goals_known m (narrow old.store l) of.flat store.wide) (ordered_of m (narrow old.store l) store) (λ a live. live.solves.fits.positive) takes law sound.tree;
+      }
+
+  -- a better solution leaves fewer assignments alive
+  live_before : (b : Point) (a : Point) → Solves m b → IfSome state.best (λ old. IsBetter m b (point_of old)) → SolvesOn m s a → IsBetter m a b → Live m s state.best a
+  live_before b a solves better on less = record { solves = on; better = go state.best sound.best better }
+    where
+      go : (best : Option Numbers) → IfSome best (λ old. Solves m (point_of old)) → IfSome best (λ old. IsBetter m b (point_of old)) → IfSome best (λ old. IsBetter m a (point_of old))
+      go None old_solves better = tt
+      go (Some old) old_solves better = better_trans a b (point_of old) m.goals on.fits.positive solves.fits.positive old_solves.fits.positive less better
+
+  solved : (d : ℤ) (vs : List ℤ) → IsNextBest m state.best d vs → Sound m s (after m state (line.Sol d vs))
+  solved d vs next = record {
+    best = next.solves;
+    tree = fewer_keeps m (Live m s state.best) (Live m s (Some (record { denominator = d; values = vs }))) state.main.nodes (λ a live. live_before (point d vs) a next.solves next.better live.solves live.better) sound.tree;
+  }
+
+-- each allowed line keeps Sound, for each test that passes the constraints that it names
+pub sound_after : (m : FlatModel) (s : ℕ → Bool) (state : State) (l : Line) → IsOf m state → Allowed m state l → All (λ k. s k ≡ true) (named l) → Sound m s state → Sound m s (after m state l)
+sound_after m s state (line.Header version) of ok within sound = record { best = sound.best; tree = sound.tree }
+sound_after m s state (line.Node id parent l) of ok within sound = opened m s state of sound parent l ok.due.order.takes ok.law id
+sound_after m s state line.CloseFloor of ok within sound = beaten m s state of sound ok.law
+sound_after m s state (line.Violated k) of ok within sound = violated m s state of sound k ok.due.order.is_open ok.law (All-head (λ k. s k ≡ true) k [] within)
+sound_after m s state (line.Sol d vs) of ok within sound = solved m s state of sound d vs ok.law
+sound_after m s state (line.Verdict v) of ok within sound = record { best = sound.best; tree = sound.tree }
+sound_after m s state _ of ok within sound = absurd ok.law
+
+pub sound_start : (m : FlatModel) (s : ℕ → Bool) → IsFlat m → Sound m s (start m)
+sound_start m s flat =
+    let store = store_declared m flat in
+    record {
+      best = tt;
+      tree = root_sound m (Live m s None) (declared m.vars) (goals_known m (declared m.vars) flat store.wide) (ordered_of m (declared m.vars) store) (λ a live. live.solves.fits.positive) (λ a live. in_declared m a live.solves.fits);
+    }
+
+-- ---- verdicts
+
+-- what Sound says of a refuted tree
+pub refuted_means : (m : FlatModel) (s : ℕ → Bool) (state : State) → Sound m s state → IsRefuted state.main → IsTrueOn m s state.best
+refuted_means m s state sound refuted = go state.best (refuted_none m (Live m s state.best) state.main.nodes sound.tree refuted)
+  where
+    go : (best : Option Numbers) → ((a : Point) → Live m s best a → ⊥) → IsTrueOn m s best
+    go None none = λ a solves. none a (record { solves = solves; better = tt })
+    go (Some b) none = λ a solves better. none a (record { solves = solves; better = better })
+
+on_any : (m : FlatModel) (s : ℕ → Bool) (a : Point) → Solves m a → SolvesOn m s a
+on_any m s a solves = record { fits = solves.fits; satisfies = λ k c e is. solves.satisfies k c is }
+
+pub verdict_is_true : (m : FlatModel) (s : ℕ → Bool) (state : State) (v : Verdict) → Sound m s state → LawfulVerdict m state v → IsTrueOf m state.best v
+verdict_is_true m s state (Optimal values) sound law = optimum state.best sound.best law.1 (refuted_means m s state sound law.2)
+  where
+    optimum : (best : Option Numbers) → IfSome best (λ b. Solves m (point_of b)) → MatchOption best ⊥ (λ b. HasValues m (point_of b) (map parts_of values)) → IsTrueOn m s best → MatchOption best ⊥ (λ b. IsOptimum m (point_of b) (map parts_of values))
+    optimum None solves attains on = attains
+    optimum (Some b) solves attains on = record { solves = solves; attains = attains; best = λ a solves'. on a (on_any m s a solves') }
+verdict_is_true m s state Satisfied sound law = some state.best sound.best law.1
+  where
+    some : (best : Option Numbers) → IfSome best (λ b. Solves m (point_of b)) → MatchOption best ⊥ (λ b. Unit {0}) → MatchOption best ⊥ (λ b. Solves m (point_of b))
+    some None solves there = there
+    some (Some b) solves there = solves
+verdict_is_true m s state Infeasible sound law =
+    let on : IsTrueOn m s None = rw law.0 at (refuted_means m s state sound law.1) in
+    λ a solves. on a (on_any m s a solves)
+verdict_is_true m s state (Limit nodes bound best) sound law = absurd law
+verdict_is_true m s state (Range bound best) sound law = absurd law

@@ -1,0 +1,247 @@
+-- What every step keeps of the state: the order of the nodes, that they are of the model, and that nothing refuted is left.
+use Rattle.std.proofs.Common.{◌≡◌, ◌≢◌, ℕ, zero, suc, ◌+◌, ◌<◌, ◌≤◌, Bool, true, false, cond, ◌&&◌, not, List, [], ◌∷◌, ◌++◌, length, map, get_or, refl, arith, ap, sym, ◌∙◌, Some}
+use Rattle.std.specs.Prelude.{ℤ, pos, ◌*ℤ◌, ◌<ℤ◌, int_lt, ◌==◌, All, AllPairs}
+use Rattle.std.specs.List.{list_all}
+use Rattle.std.proofs.lemmas.Int.{ints}
+use Rattle.std.proofs.lemmas.Bool.Decides.{nat_tests}
+use Rattle.std.proofs.lemmas.List.{length-map}
+use Rattle.std.proofs.lemmas.List.Elements.{All-nil, All-cons, All-head, All-tail, All-push, All-map, All-weaker}
+use Rattle.std.proofs.lemmas.List.Kept.{AllPairs-cons}
+use Rattle.std.proofs.lemmas.List.Quantifiers.{all_pairs_push}
+use Rattle.std.proofs.lemmas.List.Folds.{list_all-append}
+use Rattle.sm_flat.specs.declared.literal.Literal.{Literal}
+use Rattle.sm_flat.specs.declared.goal.Goal.{Goal}
+use Rattle.sm_flat.specs.Models.{FlatModel}
+use Rattle.sm_flat.specs.Limits.{IsFlat}
+use Rattle.sm_store.specs.Stores.{Extent, narrow, declared}
+use Rattle.sm_store.proofs.Parts.{store_narrowed, store_declared}
+use Rattle.sm_step.specs.declared.line.Line.{Line}
+use Rattle.sm_step.specs.declared.line.Line.TheVariants as line
+use Rattle.sm_rules.specs.Floors.{greater, raised}
+use Rattle.sm_rules.specs.Objectives.{least_costs, least_cost}
+use Rattle.sm_rules.specs.Nodes.{NodeView, no_node, is_split, with_child, TakesChild}
+use Rattle.sm_rules.specs.Trees.{Tree, node_at, set_node, without_node, has_no_child, is_done, pruned, close_focus, open_child, child_of, IsNumbered}
+use Rattle.sm_rules.specs.States.{State}
+use Rattle.sm_rules.specs.Laws.{Allowed}
+use Rattle.sm_rules.specs.Steps.{after, start}
+use Rattle.sm_rules.specs.Sound.{IsNodeOf, IsBestOf, IsOf}
+use Rattle.sm_rules.specs.Places.{AreRising, IsPlace, with_child_at}
+use Rattle.sm_rules.proofs.Places.{rising_tail, rising_head, node_at_place, set_node_place}
+use Rattle.sm_rules.proofs.Pruning.{AllNeeded, needed_from_kept, kept_from_needed, pruned-pruned}
+
+-- ---- one node is changed
+
+all_set : (P : NodeView → Type 0) (ns : List NodeView) (k : ℕ) (new : NodeView) → (P (node_at ns k) → P new) → All P ns → All P (set_node ns k new)
+all_set P [] k new f h = h
+all_set P (n ∷ ns) k new f h = by_test (n.number == k) f (All-head P n ns h) (All-tail P n ns h) (λ g. all_set P ns k new g (All-tail P n ns h))
+  where
+    by_test : (b : Bool) → (P (cond b n (node_at ns k)) → P new) → P n → All P ns → ((P (node_at ns k) → P new) → All P (set_node ns k new)) → All P (cond b (new ∷ ns) (n ∷ set_node ns k new))
+    by_test true f here there rest = All-cons P new ns (f here) there
+    by_test false f here there rest = All-cons P n (set_node ns k new) here (rest f)
+
+rising_cons : (n : NodeView) (ns : List NodeView) → All (λ (k : NodeView). n.number < k.number) ns → AreRising ns → AreRising (n ∷ ns)
+rising_cons n ns h rest = AllPairs-cons (λ (n k : NodeView). n.number < k.number) n ns h rest
+
+rising_set : (ns : List NodeView) (k : ℕ) (new : NodeView) → new.number ≡ (node_at ns k).number → AreRising ns → AreRising (set_node ns k new)
+rising_set [] k new e h = h
+rising_set (n ∷ ns) k new e h = by_test (n.number == k) e (rising_head n ns h) (rising_tail n ns h) (λ g. rising_set ns k new g (rising_tail n ns h))
+  where
+    by_test : (b : Bool) → new.number ≡ (cond b n (node_at ns k)).number → All (λ (m : NodeView). n.number < m.number) ns → AreRising ns → (new.number ≡ (node_at ns k).number → AreRising (set_node ns k new)) → AreRising (cond b (new ∷ ns) (n ∷ set_node ns k new))
+    by_test true e above there rest = rising_cons new ns (rw e above) there
+    by_test false e above there rest = rising_cons n (set_node ns k new) (all_set (λ (m : NodeView). n.number < m.number) ns k new (λ h. rw e h) above) (rest e)
+
+-- ---- nodes are dropped
+
+all_pruned : (P : NodeView → Type 0) (ns : List NodeView) → All P ns → All P (pruned ns)
+all_pruned P [] h = h
+all_pruned P (n ∷ ns) h = by_test (is_done n (pruned ns)) (All-head P n ns h) (all_pruned P ns (All-tail P n ns h))
+  where
+    by_test : (b : Bool) → P n → All P (pruned ns) → All P (cond b (pruned ns) (n ∷ pruned ns))
+    by_test true here there = there
+    by_test false here there = All-cons P n (pruned ns) here there
+
+rising_pruned : (ns : List NodeView) → AreRising ns → AreRising (pruned ns)
+rising_pruned [] h = h
+rising_pruned (n ∷ ns) h = by_test (is_done n (pruned ns)) (all_pruned (λ (m : NodeView). n.number < m.number) ns (rising_head n ns h)) (rising_pruned ns (rising_tail n ns h))
+  where
+    by_test : (b : Bool) → All (λ (m : NodeView). n.number < m.number) (pruned ns) → AreRising (pruned ns) → AreRising (cond b (pruned ns) (n ∷ pruned ns))
+    by_test true above there = there
+    by_test false above there = rising_cons n (pruned ns) above there
+
+all_without : (P : NodeView → Type 0) (ns : List NodeView) (k : ℕ) → All P ns → All P (without_node ns k)
+all_without P [] k h = h
+all_without P (n ∷ ns) k h = by_test (n.number == k) (All-head P n ns h) (All-tail P n ns h) (all_without P ns k (All-tail P n ns h))
+  where
+    by_test : (b : Bool) → P n → All P ns → All P (without_node ns k) → All P (cond b ns (n ∷ without_node ns k))
+    by_test true here there rest = there
+    by_test false here there rest = All-cons P n (without_node ns k) here rest
+
+rising_without : (ns : List NodeView) (k : ℕ) → AreRising ns → AreRising (without_node ns k)
+rising_without [] k h = h
+rising_without (n ∷ ns) k h = by_test (n.number == k) (all_without (λ (m : NodeView). n.number < m.number) ns k (rising_head n ns h)) (rising_tail n ns h) (rising_without ns k (rising_tail n ns h))
+  where
+    by_test : (b : Bool) → All (λ (m : NodeView). n.number < m.number) (without_node ns k) → AreRising ns → AreRising (without_node ns k) → AreRising (cond b ns (n ∷ without_node ns k))
+    by_test true above there rest = there
+    by_test false above there rest = rising_cons n (without_node ns k) above rest
+
+-- ---- the order of the nodes
+
+pub numbered_closed : (t : Tree) → IsNumbered t → IsNumbered (close_focus t)
+numbered_closed t h = record {
+  rising = rising_pruned (without_node t.nodes t.focus) (rising_without t.nodes t.focus h.rising);
+  below = all_pruned (λ (n : NodeView). n.number < t.count) (without_node t.nodes t.focus) (all_without (λ (n : NodeView). n.number < t.count) t.nodes t.focus h.below);
+}
+
+pub numbered_opened : (m : FlatModel) (t : Tree) (parent : ℕ) (l : Literal) → IsNumbered t → IsNumbered (open_child m t parent l)
+numbered_opened m t parent l h =
+    let old = node_at t.nodes parent in
+    let new : NodeView = record old { status = with_child old.status l } in
+    let set = set_node t.nodes parent new in
+    let below : All (λ (n : NodeView). n.number < t.count) set = all_set (λ (n : NodeView). n.number < t.count) t.nodes parent new (λ x. x) h.below in
+    record {
+      rising = all_pairs_push (λ (n k : NodeView). n.number < k.number) set (child_of m t.count old l) (rising_set t.nodes parent new refl h.rising) below;
+      below = All-push (λ (n : NodeView). n.number < t.count + 1) set (child_of m t.count old l) (All-weaker (λ (n : NodeView). n.number < t.count) (λ (n : NodeView). n.number < t.count + 1) (λ n lt. omega arith) set below) (omega arith);
+    }
+
+-- the tree with a child under the node at a place
+pub opened_is : (m : FlatModel) (t : Tree) (place parent number : ℕ) (l : Literal) → AreRising t.nodes → IsPlace t.nodes place parent → number ≡ t.count → open_child m t parent l ≡ record { nodes = with_child_at m t.nodes place number l; count = number + 1; focus = number }
+opened_is m t place parent number l rising at e = rw (e, node_at_place t.nodes place parent rising at, set_node_place t.nodes place parent _ rising at) refl
+
+-- ---- nothing refuted is left
+
+no_child-set : (k : ℕ) (ns : List NodeView) (i : ℕ) (new : NodeView) → new.parent ≡ (node_at ns i).parent → has_no_child k (set_node ns i new) ≡ has_no_child k ns
+no_child-set k [] i new e = refl
+no_child-set k (n ∷ ns) i new e = by_test (n.number == i) e (no_child-set k ns i new)
+  where
+    by_test : (b : Bool) → new.parent ≡ (cond b n (node_at ns i)).parent → (new.parent ≡ (node_at ns i).parent → has_no_child k (set_node ns i new) ≡ has_no_child k ns) → has_no_child k (cond b (new ∷ ns) (n ∷ set_node ns i new)) ≡ (not (n.parent == k) && has_no_child k ns)
+    by_test true e rest = ap (λ (p : ℕ). not (p == k) && has_no_child k ns) e
+    by_test false e rest = ap (λ (b : Bool). not (n.parent == k) && b) (rest e)
+
+and_false : (a : Bool) → (a && false) ≡ false
+and_false true = refl
+and_false false = refl
+
+false_and : (a b : Bool) → a ≡ false → (a && b) ≡ false
+false_and a b e = rw e refl
+
+same_test : (a b : ℕ) → a ≡ b → not (a == b) ≡ false
+same_test a b e = grind (arith, nat_tests)
+
+-- a child at the end is a child
+child_at_end : (k : ℕ) (ns : List NodeView) (child : NodeView) → child.parent ≡ k → has_no_child k (ns ++ child ∷ []) ≡ false
+child_at_end k [] child e = rw (same_test child.parent k e) refl
+child_at_end k (n ∷ ns) child e = rw (child_at_end k ns child e) (and_false (not (n.parent == k)))
+
+-- more nodes after one have no fewer children of it
+more_after : (s : Bool) (k : ℕ) (ns : List NodeView) (child : NodeView) → (s && has_no_child k ns) ≡ false → (s && has_no_child k (ns ++ child ∷ [])) ≡ false
+more_after s k ns child h = rw (list_all-append (λ (c : NodeView). not (c.parent == k)) ns (child ∷ [])) (by_both s (has_no_child k ns) (has_no_child k (child ∷ [])) h)
+  where
+    by_both : (s a b : Bool) → (s && a) ≡ false → (s && (a && b)) ≡ false
+    by_both true a b h = rw h refl
+    by_both false a b h = refl
+
+needed_push : (ns : List NodeView) (child : NodeView) → is_split child.status ≡ false → AllNeeded ns → AllNeeded (ns ++ child ∷ [])
+needed_push [] child is_open h = (false_and (is_split child.status) true is_open, tt)
+needed_push (n ∷ ns) child is_open h = (more_after (is_split n.status) n.number ns child h.0, needed_push ns child is_open h.1)
+
+needed_open : (ns : List NodeView) (k : ℕ) (new child : NodeView) → is_split child.status ≡ false → new.number ≡ (node_at ns k).number → new.parent ≡ (node_at ns k).parent → child.parent ≡ (node_at ns k).number → AllNeeded ns → AllNeeded (set_node ns k new ++ child ∷ [])
+needed_open [] k new child is_open number parent under h = (false_and (is_split child.status) true is_open, tt)
+needed_open (n ∷ ns) k new child is_open number parent under h = by_test (n.number == k) number parent under (needed_open ns k new child is_open)
+  where
+    by_test : (b : Bool) → new.number ≡ (cond b n (node_at ns k)).number → new.parent ≡ (cond b n (node_at ns k)).parent → child.parent ≡ (cond b n (node_at ns k)).number → (new.number ≡ (node_at ns k).number → new.parent ≡ (node_at ns k).parent → child.parent ≡ (node_at ns k).number → AllNeeded ns → AllNeeded (set_node ns k new ++ child ∷ [])) → AllNeeded (cond b (new ∷ ns) (n ∷ set_node ns k new) ++ child ∷ [])
+    by_test true number parent under rest = (rw (child_at_end new.number ns child (under ∙ sym number)) (and_false (is_split new.status)), needed_push ns child is_open h.1)
+    by_test false number parent under rest =
+        let same : is_done n (set_node ns k new) ≡ false = rw (no_child-set n.number ns k new parent) h.0 in
+        (more_after (is_split n.status) n.number (set_node ns k new) child same, rest number parent under h.1)
+
+-- ---- nodes of the model
+
+all_at : (P : NodeView → Type 0) (ns : List NodeView) (k : ℕ) → All P ns → TakesChild (node_at ns k).status → P (node_at ns k)
+all_at P [] k h takes = absurd takes
+all_at P (n ∷ ns) k h takes = by_test (n.number == k) takes (All-head P n ns h) (all_at P ns k (All-tail P n ns h))
+  where
+    by_test : (b : Bool) → TakesChild (cond b n (node_at ns k)).status → P n → (TakesChild (node_at ns k).status → P (node_at ns k)) → P (cond b n (node_at ns k))
+    by_test true takes here rest = here
+    by_test false takes here rest = rest takes
+
+length-raised : (gs xs : List (ℤ × ℤ)) → length gs ≡ length xs → length (raised gs xs) ≡ length gs
+length-raised [] xs e = refl
+length-raised (g ∷ gs) [] e = absurd (omega arith)
+length-raised (g ∷ gs) (x ∷ xs) e = ap (λ (n : ℕ). suc n) (length-raised gs xs (omega arith))
+
+greater_either : (P : ℤ × ℤ → Type 0) (p q : ℤ × ℤ) → P p → P q → P (greater p q)
+greater_either P p q h k = by_test (int_lt (p.0 *ℤ q.1) (q.0 *ℤ p.1))
+  where
+    by_test : (b : Bool) → P (cond b q p)
+    by_test true = k
+    by_test false = h
+
+all_raised : (P : ℤ × ℤ → Type 0) (gs xs : List (ℤ × ℤ)) → All P gs → All P xs → All P (raised gs xs)
+all_raised P [] xs h k = h
+all_raised P (g ∷ gs) [] h k = k
+all_raised P (g ∷ gs) (x ∷ xs) h k = All-cons P (greater g x) (raised gs xs) (greater_either P g x (All-head P g gs h) (All-head P x xs k)) (all_raised P gs xs (All-tail P g gs h) (All-tail P x xs k))
+
+costs_positive : (goals : List Goal) (store : List Extent) → All (λ p. pos 0 <ℤ p.1) (least_costs goals store)
+costs_positive goals store = All-map (λ (p : ℤ × ℤ). pos 0 <ℤ p.1) (λ g. (least_cost store g, pos 1)) goals (λ k d lt. omega (arith, ints))
+
+length-costs : (goals : List Goal) (store : List Extent) → length (least_costs goals store) ≡ length goals
+length-costs goals store = length-map goals (λ g. (least_cost store g, pos 1))
+
+child_is_of : (m : FlatModel) (number : ℕ) (parent : NodeView) (l : Literal) → IsNodeOf m parent → IsNodeOf m (child_of m number parent l)
+child_is_of m number parent l h =
+    let store = narrow parent.store l in
+    let costs = least_costs m.goals store in
+    let same : length parent.floors ≡ length costs = h.floors ∙ sym (length-costs m.goals store) in
+    record {
+      store = store_narrowed m parent.store l h.store;
+      floors = length-raised parent.floors costs same ∙ h.floors;
+      positive = all_raised (λ (p : ℤ × ℤ). pos 0 <ℤ p.1) parent.floors costs h.positive (costs_positive m.goals store);
+    }
+
+-- ---- the state
+
+of_opened : (m : FlatModel) (s : State) (parent : ℕ) (l : Literal) → IsOf m s → TakesChild (node_at s.main.nodes parent).status → IsOf m (record s { main = open_child m s.main parent l })
+of_opened m s parent l of takes =
+    let nodes = s.main.nodes in
+    let old = node_at nodes parent in
+    let new : NodeView = record old { status = with_child old.status l } in
+    let child = child_of m s.main.count old l in
+    record {
+      flat = of.flat;
+      nodes = All-push (λ (n : NodeView). IsNodeOf m n) (set_node nodes parent new) child (all_set (λ (n : NodeView). IsNodeOf m n) nodes parent new (λ h. record { store = h.store; floors = h.floors; positive = h.positive }) of.nodes) (child_is_of m s.main.count old l (all_at (λ (n : NodeView). IsNodeOf m n) nodes parent of.nodes takes));
+      numbered = numbered_opened m s.main parent l of.numbered;
+      kept = kept_from_needed (set_node nodes parent new ++ child ∷ []) (needed_open nodes parent new child refl refl refl refl (needed_from_kept nodes of.kept));
+      best = of.best;
+    }
+
+of_closed : (m : FlatModel) (s : State) → IsOf m s → IsOf m (record s { main = close_focus s.main })
+of_closed m s of = record {
+  flat = of.flat;
+  nodes = all_pruned (λ (n : NodeView). IsNodeOf m n) (without_node s.main.nodes s.main.focus) (all_without (λ (n : NodeView). IsNodeOf m n) s.main.nodes s.main.focus of.nodes);
+  numbered = numbered_closed s.main of.numbered;
+  kept = pruned-pruned (without_node s.main.nodes s.main.focus);
+  best = of.best;
+}
+
+pub of_after : (m : FlatModel) (s : State) (l : Line) → IsOf m s → Allowed m s l → IsOf m (after m s l)
+of_after m s (line.Header version) of ok = record { flat = of.flat; nodes = of.nodes; numbered = of.numbered; kept = of.kept; best = of.best }
+of_after m s (line.Node id parent l) of ok = of_opened m s parent l of ok.due.order.takes
+of_after m s line.CloseFloor of ok = of_closed m s of
+of_after m s (line.Violated k) of ok = of_closed m s of
+of_after m s (line.Sol denominator values) of ok = record { flat = of.flat; nodes = of.nodes; numbered = of.numbered; kept = of.kept; best = record { fit = ok.law.fit; each = ok.law.each } }
+of_after m s (line.Verdict v) of ok = record { flat = of.flat; nodes = of.nodes; numbered = of.numbered; kept = of.kept; best = of.best }
+of_after m s _ of ok = of
+
+pub of_start : (m : FlatModel) → IsFlat m → IsOf m (start m)
+of_start m flat =
+    let store = declared m.vars in
+    record {
+      flat = flat;
+      nodes = All-cons (λ (n : NodeView). IsNodeOf m n) _ [] (record { store = store_declared m flat; floors = length-costs m.goals store; positive = costs_positive m.goals store }) (All-nil (λ (n : NodeView). IsNodeOf m n));
+      numbered = record {
+        rising = λ i j d lt within. absurd (omega arith);
+        below = All-cons (λ (n : NodeView). n.number < 1) _ [] (omega arith) (All-nil (λ (n : NodeView). n.number < 1));
+      };
+      kept = refl;
+      best = tt;
+    }

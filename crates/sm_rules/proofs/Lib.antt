@@ -1,0 +1,11 @@
+pub mod Integers
+pub mod LeastCosts
+pub mod Levels
+pub mod Moves
+pub mod Keeping
+pub mod Places
+pub mod Pruning
+pub mod Fractions
+pub mod Sums
+pub mod Kept
+pub mod Children

@@ -1,0 +1,15 @@
+pub mod Floors
+pub mod Objectives
+pub mod Nodes
+pub mod Trees
+pub mod Violations
+pub mod States
+pub mod Orders
+pub mod Laws
+pub mod Steps
+pub mod Sound
+pub mod Spares
+pub mod Refusals
+pub mod Halves
+pub mod Places
+pub mod Standings

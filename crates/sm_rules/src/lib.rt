@@ -1,0 +1,16 @@
+//! The state of a proof log: which lines it allows, what each makes of it, and what every allowed line keeps.
+#![tactic(auto)]
+
+mod cause;
+mod laws;
+mod log_state;
+mod node;
+mod objectives;
+#[cfg(test)]
+mod tests;
+mod tree;
+mod violation;
+
+pub use cause::Cause;
+pub use log_state::{ApplyRefusal, LogState};
+pub use node::Status;

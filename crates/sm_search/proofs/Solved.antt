@@ -1,0 +1,26 @@
+-- What a whole search comes to.
+use Rattle.std.proofs.Common.{◌≡◌, ℕ, ◌≤◌, List, Option, Some, subst}
+use Rattle.std.specs.Prelude.{IfSome}
+use Rattle.sm_flat.specs.Models.{FlatModel}
+use Rattle.sm_step.specs.Verdicts.{IsTrueOf}
+use Rattle.sm_search.specs.declared.ending.Ending.{Ending}
+use Rattle.sm_search.specs.declared.refusal.WorkRefusal.{WorkRefusal}
+use Rattle.sm_search.specs.Fits.{IsFit}
+use Rattle.sm_search.specs.Turns.{HasEnded, HasSolved}
+use Rattle.sm_search.specs.Went.{Place, begin, Went, Stopped}
+use Rattle.sm_search.proofs.Goings.{went_more, stopped_more}
+
+-- the first line, and then the others up to the verdict
+pub solved_by : (m : FlatModel) (p q r : Place) (x y z : Option (List ℕ)) (e : Ending) → p ≡ begin m → Went m p q x y → Went m q r y z → IsFit m r.state → HasEnded r.state e → HasSolved m x z e
+solved_by m p q r x y z e is one two fit ended =
+    let P : Place → Type 0 = λ s. Went m s r x z in
+    let says : IfSome (Some ended.verdict) (IsTrueOf m r.state.best) = rw ended.stands at fit.says in
+    record { place = r; went = subst P is (went_more m p q r x y z one two); ended = ended; holds = says }
+
+-- the first line stopped
+pub stopped_first : (m : FlatModel) (p : Place) (x y : Option (List ℕ)) (a b : ℕ) (r : WorkRefusal) → p ≡ begin m → Stopped m p x y a b r → Stopped m (begin m) x y a b r
+stopped_first m p x y a b r is stop = let P : Place → Type 0 = λ s. Stopped m s x y a b r in subst P is stop
+
+-- a later line did
+pub stopped_later : (m : FlatModel) (p q : Place) (x y z : Option (List ℕ)) (a b c : ℕ) (r : WorkRefusal) → p ≡ begin m → a ≤ b → Went m p q x y → Stopped m q y z b c r → Stopped m (begin m) x z a c r
+stopped_later m p q x y z a b c r is le one two = stopped_first m p x z a c r is (stopped_more m p q x y z a b c r le one two)

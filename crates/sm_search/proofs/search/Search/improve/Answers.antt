@@ -1,0 +1,21 @@
+use Rattle.std.proofs.Common.{rules}
+use Rattle.std.specs.Prelude.{IfSome}
+use Rattle.sm_flat.specs.Points.{point_of}
+use Rattle.sm_flat.specs.Goals.{IsBetter}
+use Rattle.sm_search.proofs.Lines.{allow_solution, next_best, reached_before, reached_after}
+use Rattle.sm_search.proofs.search.Search.improve.Goals as goal
+
+pub returns-then-not-is_better-clause-reached : goal.returns-then-not-is_better-clause-reached
+returns-then-not-is_better-clause-reached g c =
+    let none : IfSome c.args.self.now.state.best (λ b. IsBetter c.args.flat.now (point_of c.args.point.now) (point_of b)) → ⊥ = search rules in
+    reached_before c.args.flat.now c.args.self.now.state c.args.point.now c.requires.fit c.requires.at c.requires.leaf none
+
+pub put-requires-clause-allowed : goal.put-requires-clause-allowed
+put-requires-clause-allowed g c =
+    let better : IfSome c.args.self.now.state.best (λ b. IsBetter c.args.flat.now (point_of c.args.point.now) (point_of b)) = search rules in
+    let next = next_best c.args.flat.now c.args.self.now.state c.args.point.now c.requires.fit c.requires.at c.requires.leaf better in
+    rw (c.in_ok-from_slice.ensures, c.values.ensures) (allow_solution c.args.flat.now c.args.self.now.state _ c.args.point.now.values c.requires.at.going next)
+
+pub returns-clause-reached : goal.returns-clause-reached
+returns-clause-reached g c =
+    rw (c.in_ok-put.ensures.state, c.in_ok-from_slice.ensures, c.values.ensures) (reached_after c.args.flat.now c.args.self.now.state c.args.point.now c.requires.fit c.requires.at c.requires.leaf)

@@ -1,0 +1,6 @@
+pub mod Weights
+pub mod Went
+pub mod Fits
+pub mod Leaves
+pub mod Picks
+pub mod Turns

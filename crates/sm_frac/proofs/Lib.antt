@@ -1,4 +1,5 @@
 pub mod FracLemmas
+pub mod Deciding
 pub mod Divides
 pub mod BinaryGcd
 pub mod IntRing

@@ -72,7 +72,7 @@ fn gcd_odd(odd: u128, other: u128) -> u128
 }
 
 /// The greatest common divisor. That of 0 and a number is the number.
-pub(crate) fn gcd(a: u128, b: u128) -> u128
+pub fn gcd(a: u128, b: u128) -> u128
     ensures { IsGcd a b result }
 {
     if a == 1 || b == 1 {

@@ -15,6 +15,7 @@ mod rounding;
 mod tests;
 
 pub use compare::compare_ratios;
+pub use divisor::gcd;
 pub use fraction::Frac;
 pub use multiple::lcm_52;
 pub use operation::{Op, RangePassed};

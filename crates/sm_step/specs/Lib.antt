@@ -1,2 +1,12 @@
+pub mod Fractions
+pub mod Grammar
+pub mod LineReading
+pub mod PartReading
+pub mod PartText
+pub mod Reading
+pub mod RowReading
+pub mod RowText
+pub mod RuleReading
+pub mod RuleText
 pub mod Text
 pub mod Verdicts

@@ -1,5 +1,5 @@
 -- When a verdict is true of a model.
-use Rattle.std.specs.Prelude.{◌≡◌, List, map, ℤ, pos, ◌*ℤ◌, ◌≤ℤ◌, Option, None, MatchOption, slice_index_or}
+use Rattle.std.specs.Prelude.{◌≡◌, List, map, ℤ, ◌*ℤ◌, ◌≤ℤ◌, Option, None, MatchOption}
 use Rattle.sm_frac.specs.declared.fraction.Frac.{Frac}
 use Rattle.sm_flat.specs.declared.goal.Goal.{Goal}
 use Rattle.sm_flat.specs.declared.goal.Sense.{Sense}

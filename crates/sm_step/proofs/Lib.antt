@@ -1,0 +1,10 @@
+pub mod Divisors
+pub mod Exact
+pub mod ExactRows
+pub mod FracParts
+pub mod Fronts
+pub mod Lines
+pub mod Numbers
+pub mod Refusals
+pub mod Repeated
+pub mod Rising

@@ -1,0 +1,203 @@
+//! Patterns, programs and operations in a line.
+ghost use Rattle.std.specs.Prelude.{◌≡◌, ◌++◌, ◌↔◌, IsTrue, codes, Some, None, Err, IfOk, OnOk};
+ghost use Rattle.sm_step.specs.Text.{listed_text, pattern_text, program_text, operation_text};
+ghost use Rattle.sm_step.specs.LineReading.{listed_pattern_in, pattern_in, program_in, operation_in};
+ghost use Rattle.sm_step.specs.Grammar.{IsListed, IsPattern, IsProgram};
+ghost use Rattle.sm_step.specs.declared.refusal.LineRefusal.TheVariants.{BadLine};
+
+use crate::cursor::Cursor;
+use crate::line::{Listed, NorangeOf, Pattern};
+use crate::lists::{all_in_range, push_listed, read_listed};
+use crate::part::Part;
+use crate::refusal::LineRefusal;
+use crate::row_range::is_list;
+use sm_base::{OutOfMemory, push_whole};
+use sm_frac::Op;
+use std::alloc::Global;
+
+fn push_listed_pattern(into: &mut Vec<u8>, pattern: &Listed) -> Result<(), OutOfMemory>
+    ensures { OnOk result (into.new.items ≡ into.old.items ++ listed_text pattern.now) }
+{
+    push_whole(into, i128::from(pattern.group))?;
+    into.extend_from_slice(b":")?;
+    push_listed(into, b',', pattern.items.as_slice())
+}
+
+#[tactic(auto, unfolding(crate::specs::LineReading::listed_pattern_in))]
+fn read_listed_pattern(alloc: Global, cursor: &mut Cursor<'_>) -> Result<Listed, LineRefusal>
+    ensures found { IfOk result (λ p. cursor.old ≡ listed_text p ++ cursor.new) }
+    ensures some { IfOk result (λ p. listed_pattern_in cursor.old ≡ Some (p, cursor.new)) }
+    ensures none { result ≡ Err BadLine → listed_pattern_in cursor.old ≡ None }
+{
+    let group = cursor.number()?;
+    cursor.expect(b":")?;
+    let items = read_listed(alloc, cursor, b',')?;
+    Ok(Listed { group, items })
+}
+
+fn is_listed(pattern: &Listed) -> bool
+    ensures { IsTrue result ↔ IsListed pattern.now }
+{
+    pattern.group.is_in_range() && is_list(pattern.items.as_slice())
+}
+
+impl Part for Listed {
+    ghost use Rattle.sm_step.specs.Text.{listed_text};
+    ghost use Rattle.sm_step.specs.LineReading.{listed_pattern_in};
+    ghost use Rattle.sm_step.specs.Grammar.{IsListed};
+
+    ghost text = { listed_text };
+
+    ghost reading = { listed_pattern_in };
+
+    ghost fits = { IsListed };
+
+    fn push(&self, into: &mut Vec<u8>) -> Result<(), OutOfMemory> {
+        push_listed_pattern(into, self)
+    }
+
+    fn read(alloc: Global, cursor: &mut Cursor<'_>) -> Result<Listed, LineRefusal> {
+        read_listed_pattern(alloc, cursor)
+    }
+
+    fn is_in_range(&self) -> bool {
+        is_listed(self)
+    }
+}
+
+fn push_pattern(into: &mut Vec<u8>, pattern: &Pattern) -> Result<(), OutOfMemory>
+    ensures { OnOk result (into.new.items ≡ into.old.items ++ pattern_text pattern.now) }
+{
+    push_whole(into, i128::from(pattern.group))?;
+    into.extend_from_slice(b":")?;
+    push_listed(into, b',', pattern.items.as_slice())?;
+    into.extend_from_slice(b":")?;
+    push_whole(into, pattern.weight)
+}
+
+#[tactic(auto, unfolding(crate::specs::LineReading::pattern_in))]
+fn read_pattern(alloc: Global, cursor: &mut Cursor<'_>) -> Result<Pattern, LineRefusal>
+    ensures found { IfOk result (λ p. cursor.old ≡ pattern_text p ++ cursor.new) }
+    ensures some { IfOk result (λ p. pattern_in cursor.old ≡ Some (p, cursor.new)) }
+    ensures none { result ≡ Err BadLine → pattern_in cursor.old ≡ None }
+{
+    let group = cursor.number()?;
+    cursor.expect(b":")?;
+    let items = read_listed(alloc, cursor, b',')?;
+    cursor.expect(b":")?;
+    let weight = cursor.whole()?;
+    Ok(Pattern {
+        group,
+        items,
+        weight,
+    })
+}
+
+fn is_pattern(pattern: &Pattern) -> bool
+    ensures { IsTrue result ↔ IsPattern pattern.now }
+{
+    pattern.group.is_in_range() && is_list(pattern.items.as_slice()) && pattern.weight.is_in_range()
+}
+
+impl Part for Pattern {
+    ghost use Rattle.sm_step.specs.Text.{pattern_text};
+    ghost use Rattle.sm_step.specs.LineReading.{pattern_in};
+    ghost use Rattle.sm_step.specs.Grammar.{IsPattern};
+
+    ghost text = { pattern_text };
+
+    ghost reading = { pattern_in };
+
+    ghost fits = { IsPattern };
+
+    fn push(&self, into: &mut Vec<u8>) -> Result<(), OutOfMemory> {
+        push_pattern(into, self)
+    }
+
+    fn read(alloc: Global, cursor: &mut Cursor<'_>) -> Result<Pattern, LineRefusal> {
+        read_pattern(alloc, cursor)
+    }
+
+    fn is_in_range(&self) -> bool {
+        is_pattern(self)
+    }
+}
+
+pub(crate) fn push_program(into: &mut Vec<u8>, program: &NorangeOf) -> Result<(), OutOfMemory>
+    ensures { OnOk result (into.new.items ≡ into.old.items ++ program_text program.now) }
+{
+    match program {
+        NorangeOf::Relax => Ok(into.extend_from_slice(b"relax")?),
+        NorangeOf::Leaf => Ok(into.extend_from_slice(b"leaf")?),
+        NorangeOf::Pack { k, patterns } => {
+            into.extend_from_slice(b"pack.")?;
+            push_whole(into, i128::from(*k))?;
+            into.extend_from_slice(b" ")?;
+            push_listed(into, b';', patterns.as_slice())
+        }
+    }
+}
+
+#[tactic(auto, unfolding(crate::specs::LineReading::program_in))]
+pub(crate) fn read_program(alloc: Global, cursor: &mut Cursor<'_>) -> Result<NorangeOf, LineRefusal>
+    ensures found { IfOk result (λ p. cursor.old ≡ program_text p ++ cursor.new) }
+    ensures some { IfOk result (λ p. program_in cursor.old ≡ Some (p, cursor.new)) }
+    ensures none { result ≡ Err BadLine → program_in cursor.old ≡ None }
+{
+    if cursor.accept(b"relax") {
+        return Ok(NorangeOf::Relax);
+    }
+    if cursor.accept(b"leaf") {
+        return Ok(NorangeOf::Leaf);
+    }
+    cursor.expect(b"pack.")?;
+    let k = cursor.number()?;
+    cursor.expect(b" ")?;
+    let patterns = read_listed(alloc, cursor, b';')?;
+    Ok(NorangeOf::Pack { k, patterns })
+}
+
+pub(crate) fn is_program(program: &NorangeOf) -> bool
+    ensures { IsTrue result ↔ IsProgram program.now }
+{
+    match program {
+        NorangeOf::Relax | NorangeOf::Leaf => true,
+        NorangeOf::Pack { k, patterns } => k.is_in_range() && all_in_range(patterns.as_slice()),
+    }
+}
+
+pub(crate) fn push_operation(into: &mut Vec<u8>, operation: Op) -> Result<(), OutOfMemory>
+    ensures { OnOk result (into.new.items ≡ into.old.items ++ operation_text operation) }
+{
+    let text: &[u8] = match operation {
+        Op::Plus => b"plus",
+        Op::Minus => b"minus",
+        Op::Times => b"times",
+        Op::Over => b"over",
+        Op::Lcm => b"lcm",
+    };
+    into.extend_from_slice(text)?;
+    Ok(())
+}
+
+#[tactic(auto, unfolding(crate::specs::LineReading::operation_in))]
+pub(crate) fn read_operation(cursor: &mut Cursor<'_>) -> Result<Op, LineRefusal>
+    ensures found { IfOk result (λ o. cursor.old ≡ operation_text o ++ cursor.new) }
+    ensures some { IfOk result (λ o. operation_in cursor.old ≡ Some (o, cursor.new)) }
+    ensures none { result ≡ Err BadLine → operation_in cursor.old ≡ None }
+{
+    if cursor.accept(b"plus") {
+        return Ok(Op::Plus);
+    }
+    if cursor.accept(b"minus") {
+        return Ok(Op::Minus);
+    }
+    if cursor.accept(b"times") {
+        return Ok(Op::Times);
+    }
+    if cursor.accept(b"over") {
+        return Ok(Op::Over);
+    }
+    cursor.expect(b"lcm")?;
+    Ok(Op::Lcm)
+}

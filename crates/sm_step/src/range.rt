@@ -1,0 +1,180 @@
+//! Which lines are in the ranges of the grammar.
+ghost use Rattle.std.specs.Prelude.{◌≡◌, ◌↔◌, IsTrue, All};
+ghost use Rattle.sm_step.specs.Grammar.{IsSome, IsWhole, IsLiteral, IsDenominator, AreInLowestTerms, AreValues, ArePrices, IsTask, IsRule, IsOutcome, IsOneOutcome, IsTerm, IsPattern, IsInRange};
+
+use crate::line::{Line, Outcome, Pattern};
+use crate::lists::all_in_range;
+use crate::literal::is_literal;
+use crate::part::Part;
+use crate::pattern_text::is_program;
+use crate::row::Term;
+use crate::row_range::{are_columns, is_list, is_long_number, is_row};
+use crate::rule::Rule;
+use crate::verdict_text::is_verdict;
+use sm_flat::Literal;
+use sm_frac::gcd;
+
+/// The greatest denominator.
+const DENOMINATORS: i64 = 1 << 52;
+
+fn is_denominator(denominator: i64) -> bool
+    ensures { IsTrue result ↔ IsDenominator denominator }
+{
+    1 <= denominator && denominator <= DENOMINATORS
+}
+
+/// Whether no number but 1 divides the denominator and each numerator.
+fn are_in_lowest_terms(denominator: i64, numerators: &[i128]) -> bool
+    ensures lowest { IsTrue result ↔ AreInLowestTerms denominator numerators.now }
+    ensures whole { All IsWhole numerators.now }
+{
+    let mut divisor = u128::from(denominator.unsigned_abs());
+    for numerator in numerators {
+        divisor = gcd(divisor, numerator.unsigned_abs());
+    }
+    divisor == 1
+}
+
+fn are_values(denominator: i64, numerators: &[i128]) -> bool
+    ensures { IsTrue result ↔ AreValues denominator numerators.now }
+{
+    is_denominator(denominator) && are_in_lowest_terms(denominator, numerators)
+}
+
+fn are_prices(denominator: i64, prices: &[i128]) -> bool
+    ensures { IsTrue result ↔ ArePrices denominator prices.now }
+{
+    is_denominator(denominator) && all_in_range(prices)
+}
+
+fn is_task(task: Option<u32>) -> bool
+    ensures { IsTrue result ↔ IsTask task }
+{
+    match task {
+        Some(task) => task.is_in_range(),
+        None => true,
+    }
+}
+
+/// Whether the numbers and lists of a rule are in range.
+fn is_rule(rule: &Rule) -> bool
+    ensures { IsTrue result ↔ IsRule rule.now }
+{
+    match rule {
+        Rule::Sum { k, half } => k.is_in_range() && half.is_in_range(),
+        Rule::Clause { k, clause } => k.is_in_range() && clause.is_in_range(),
+        Rule::When { k, half } => k.is_in_range() && half.is_in_range(),
+        Rule::Elem { k } | Rule::Isum { k } | Rule::Pay { k } => k.is_in_range(),
+        Rule::Time { k, moment, task } => k.is_in_range() && moment.is_in_range() && is_task(*task),
+        Rule::Hall { k, w } | Rule::Energy { k, w } | Rule::Load { k, w } => k.is_in_range()
+            && is_list(w.as_slice()),
+        Rule::After { k, task, w, v } | Rule::Before { k, task, w, v } => {
+            k.is_in_range() && task.is_in_range() && is_list(w.as_slice()) && is_list(v.as_slice())
+        }
+        Rule::Cap { k, group } => k.is_in_range() && group.is_in_range(),
+        Rule::Chain { k, place } => k.is_in_range() && place.is_in_range(),
+    }
+}
+
+/// Whether there is a literal and all are in range.
+fn are_literals(literals: &[Literal]) -> bool
+    ensures { IsTrue result ↔ (IsSome literals.now × All IsLiteral literals.now) }
+{
+    !literals.is_empty() && all_in_range(literals)
+}
+
+fn is_outcome(outcome: &Outcome) -> bool
+    ensures { IsTrue result ↔ IsOutcome outcome.now }
+{
+    match outcome {
+        Outcome::Close => true,
+        Outcome::Literals(literals) => are_literals(literals.as_slice()),
+    }
+}
+
+/// Whether a lemma may come to this: `close`, or one literal.
+fn is_one_outcome(outcome: &Outcome) -> bool
+    ensures { IsTrue result ↔ IsOneOutcome outcome.now }
+{
+    match outcome {
+        Outcome::Close => true,
+        Outcome::Literals(literals) => literals.as_slice().len() == 1
+            && all_in_range(literals.as_slice()),
+    }
+}
+
+fn are_terms(terms: &[Term]) -> bool
+    ensures { IsTrue result ↔ All IsTerm terms.now }
+{
+    all_in_range(terms)
+}
+
+fn are_patterns(patterns: &[Pattern]) -> bool
+    ensures { IsTrue result ↔ All IsPattern patterns.now }
+{
+    all_in_range(patterns)
+}
+
+/// Whether what the line says is in range.
+pub(crate) fn is_in_range(line: &Line) -> bool
+    ensures { IsTrue result ↔ IsInRange line.now }
+{
+    match line {
+        Line::Header { version } => *version == 1,
+        Line::Node {
+            id,
+            parent,
+            literal,
+        } => is_long_number(*id) && is_long_number(*parent) && is_literal(literal),
+        Line::At { id } => is_long_number(*id),
+        Line::Infer { rule, result } => is_rule(rule) && is_outcome(result),
+        Line::Lemma { lemma, result } => is_long_number(*lemma) && is_one_outcome(result),
+        Line::CutoffNone { literal, terms } | Line::CutoffCost { literal, terms } => is_literal(
+            literal,
+        ) && are_terms(terms.as_slice()),
+        Line::Floor { terms } | Line::CloseNone { terms } | Line::CloseCost { terms } => are_terms(
+            terms.as_slice(),
+        ),
+        Line::CloseFloor | Line::Qed | Line::Drop => true,
+        Line::Violated { k } => k.is_in_range(),
+        Line::Pair {
+            denominator,
+            values,
+        }
+        | Line::Sol {
+            denominator,
+            values,
+        } => are_values(*denominator, values.as_slice()),
+        Line::Norange { of, basis, .. } => is_program(of) && is_list(basis.as_slice()),
+        Line::Price {
+            k,
+            denominator,
+            prices,
+            scale,
+            patterns,
+        } => {
+            k.is_in_range()
+                && are_prices(*denominator, prices.as_slice())
+                && is_denominator(*scale)
+                && are_patterns(patterns.as_slice())
+        }
+        Line::Farkas {
+            k,
+            denominator,
+            prices,
+        } => k.is_in_range() && are_prices(*denominator, prices.as_slice()),
+        Line::CutGomory { terms } => !terms.as_slice().is_empty() && are_terms(terms.as_slice()),
+        Line::CutCover { row, columns } => is_row(row) && are_columns(columns.as_slice()),
+        Line::CutLeave { k, nodes } => k.is_in_range()
+            && !nodes.as_slice().is_empty()
+            && is_list(nodes.as_slice()),
+        Line::Assume { literals } => are_literals(literals.as_slice()),
+        Line::Feasible {
+            sub,
+            denominator,
+            values,
+        } => sub.is_in_range() && are_values(*denominator, values.as_slice()),
+        Line::Verdict(verdict) => is_verdict(verdict),
+        _ => false,
+    }
+}

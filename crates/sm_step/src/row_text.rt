@@ -1,0 +1,217 @@
+//! Columns, rows and terms in a line.
+ghost use Rattle.std.specs.Prelude.{◌≡◌, ◌++◌, ◌^◌, pos, codes, Some, None, Err, IfOk, OnOk};
+ghost use Rattle.sm_base.specs.Whole.{whole_text};
+ghost use Rattle.sm_step.specs.PartText.{number_text, list_text};
+ghost use Rattle.sm_step.specs.RowText.{column_text, row_text, term_text};
+ghost use Rattle.sm_step.specs.RowReading.{column_in, pair_in, number_and_whole_in, task_row_in, row_in, term_in};
+ghost use Rattle.sm_step.specs.declared.refusal.LineRefusal.TheVariants.{BadLine};
+
+use crate::cursor::Cursor;
+use crate::fraction::{push_fraction, read_fraction};
+use crate::lists::{push_listed, read_listed};
+use crate::refusal::LineRefusal;
+use crate::row::{Col, RowRef, Term};
+use sm_base::{OutOfMemory, push_whole};
+use std::alloc::Global;
+
+pub(crate) fn push_column(into: &mut Vec<u8>, column: &Col) -> Result<(), OutOfMemory>
+    ensures { OnOk result (into.new.items ≡ into.old.items ++ column_text column.now) }
+{
+    into.extend_from_slice(b"v")?;
+    match column {
+        Col::Var(var) => push_whole(into, i128::from(*var)),
+        Col::Is(var, value) => {
+            push_whole(into, i128::from(*var))?;
+            into.extend_from_slice(b"=")?;
+            push_whole(into, i128::from(*value))
+        }
+    }
+}
+
+/// Appends a name and a number.
+fn push_named(into: &mut Vec<u8>, name: &[u8], number: u64) -> Result<(), OutOfMemory>
+    ensures { OnOk result (into.new.items ≡ into.old.items ++ name.now ++ number_text number) }
+{
+    into.extend_from_slice(name)?;
+    push_whole(into, i128::from(number))
+}
+
+/// Appends a name, a number, a point and a whole number.
+fn push_pair(into: &mut Vec<u8>, name: &[u8], k: u32, number: i128) -> Result<(), OutOfMemory>
+    ensures { OnOk result (into.new.items ≡ into.old.items ++ (name.now ++ number_text k ++ codes "." ++ whole_text number)) }
+{
+    into.extend_from_slice(name)?;
+    push_whole(into, i128::from(k))?;
+    into.extend_from_slice(b".")?;
+    push_whole(into, number)
+}
+
+/// Appends a list of tasks behind a constraint's number.
+fn push_tasks(into: &mut Vec<u8>, k: u32, tasks: &[u32]) -> Result<(), OutOfMemory>
+    ensures { OnOk result (into.new.items ≡ into.old.items ++ (codes "par." ++ number_text k ++ codes "." ++ list_text tasks.now)) }
+{
+    into.extend_from_slice(b"par.")?;
+    push_whole(into, i128::from(k))?;
+    into.extend_from_slice(b".")?;
+    push_listed(into, b',', tasks)
+}
+
+pub(crate) fn push_row(into: &mut Vec<u8>, row: &RowRef) -> Result<(), OutOfMemory>
+    ensures { OnOk result (into.new.items ≡ into.old.items ++ row_text row.now) }
+{
+    match row {
+        RowRef::Lin { k } => push_named(into, b"lin.", u64::from(*k)),
+        RowRef::Link { var } => push_named(into, b"link.", u64::from(*var)),
+        RowRef::Mean { var } => push_named(into, b"mean.", u64::from(*var)),
+        RowRef::Clause { k, clause } => push_pair(into, b"clause.", *k, i128::from(*clause)),
+        RowRef::When { k, half } => push_pair(into, b"when.", *k, i128::from(*half)),
+        RowRef::Value { k, value } => push_pair(into, b"value.", *k, *value),
+        RowRef::Table { k } => push_named(into, b"table.", u64::from(*k)),
+        RowRef::Time { k, moment } => push_pair(into, b"time.", *k, *moment),
+        RowRef::Par { k, tasks } => push_tasks(into, *k, tasks.as_slice()),
+        RowRef::Cap { k, group } => push_pair(into, b"cap.", *k, i128::from(*group)),
+        RowRef::Pack { k } => push_named(into, b"pack.", u64::from(*k)),
+        RowRef::Once { k, node } => push_pair(into, b"once.", *k, i128::from(*node)),
+        RowRef::SelfLoop { k, place } => push_pair(into, b"self.", *k, i128::from(*place)),
+        RowRef::Cut { cut } => push_named(into, b"cut.", *cut),
+        RowRef::Goal { level } => push_named(into, b"goal.", u64::from(*level)),
+        RowRef::Named { name } => push_named(into, b"r", *name),
+    }
+}
+
+pub(crate) fn push_term(into: &mut Vec<u8>, term: &Term) -> Result<(), OutOfMemory>
+    ensures { OnOk result (into.new.items ≡ into.old.items ++ term_text term.now) }
+{
+    push_fraction(into, &term.by)?;
+    into.extend_from_slice(b"@")?;
+    push_row(into, &term.row)
+}
+
+#[tactic(auto, unfolding(crate::specs::RowReading::column_in))]
+pub(crate) fn read_column(cursor: &mut Cursor<'_>) -> Result<Col, LineRefusal>
+    ensures found { IfOk result (λ c. cursor.old ≡ column_text c ++ cursor.new) }
+    ensures some { IfOk result (λ c. column_in cursor.old ≡ Some (c, cursor.new)) }
+    ensures none { result ≡ Err BadLine → column_in cursor.old ≡ None }
+{
+    cursor.expect(b"v")?;
+    let var = cursor.number()?;
+    if !cursor.accept(b"=") {
+        return Ok(Col::Var(var));
+    }
+    let value = cursor.narrow()?;
+    Ok(Col::Is(var, value))
+}
+
+/// Reads two numbers with a point between them.
+#[tactic(auto, unfolding(crate::specs::RowReading::pair_in))]
+fn read_pair(cursor: &mut Cursor<'_>) -> Result<(u32, u32), LineRefusal>
+    ensures found { IfOk result (λ p. cursor.old ≡ number_text p.0 ++ codes "." ++ number_text p.1 ++ cursor.new) }
+    ensures some { IfOk result (λ p. pair_in cursor.old ≡ Some (p, cursor.new)) }
+    ensures none { result ≡ Err BadLine → pair_in cursor.old ≡ None }
+{
+    let k = cursor.number()?;
+    cursor.expect(b".")?;
+    let number = cursor.number()?;
+    Ok((k, number))
+}
+
+/// Reads a number and a whole number with a point between them.
+#[tactic(auto, unfolding(crate::specs::RowReading::number_and_whole_in))]
+fn read_number_and_whole(cursor: &mut Cursor<'_>) -> Result<(u32, i128), LineRefusal>
+    ensures found { IfOk result (λ p. cursor.old ≡ number_text p.0 ++ codes "." ++ whole_text p.1 ++ cursor.new) }
+    ensures some { IfOk result (λ p. number_and_whole_in cursor.old ≡ Some (p, cursor.new)) }
+    ensures none { result ≡ Err BadLine → number_and_whole_in cursor.old ≡ None }
+{
+    let k = cursor.number()?;
+    cursor.expect(b".")?;
+    let number = cursor.whole()?;
+    Ok((k, number))
+}
+
+/// Reads the name of a row of scheduling, packing or a circuit, or of a cut.
+#[tactic(auto, unfolding(crate::specs::RowReading::task_row_in))]
+fn read_task_row(alloc: Global, cursor: &mut Cursor<'_>) -> Result<RowRef, LineRefusal>
+    ensures found { IfOk result (λ r. cursor.old ≡ row_text r ++ cursor.new) }
+    ensures some { IfOk result (λ r. task_row_in cursor.old ≡ Some (r, cursor.new)) }
+    ensures none { result ≡ Err BadLine → task_row_in cursor.old ≡ None }
+{
+    if cursor.accept(b"time.") {
+        let (k, moment) = read_number_and_whole(cursor)?;
+        return Ok(RowRef::Time { k, moment });
+    }
+    if cursor.accept(b"par.") {
+        let k = cursor.number()?;
+        cursor.expect(b".")?;
+        let tasks = read_listed(alloc, cursor, b',')?;
+        return Ok(RowRef::Par { k, tasks });
+    }
+    if cursor.accept(b"cap.") {
+        let (k, group) = read_pair(cursor)?;
+        return Ok(RowRef::Cap { k, group });
+    }
+    if cursor.accept(b"pack.") {
+        let k = cursor.number()?;
+        return Ok(RowRef::Pack { k });
+    }
+    if cursor.accept(b"once.") {
+        let (k, node) = read_pair(cursor)?;
+        return Ok(RowRef::Once { k, node });
+    }
+    if cursor.accept(b"self.") {
+        let (k, place) = read_pair(cursor)?;
+        return Ok(RowRef::SelfLoop { k, place });
+    }
+    cursor.expect(b"cut.")?;
+    let cut = cursor.long_number()?;
+    Ok(RowRef::Cut { cut })
+}
+
+/// Reads the name of a row.
+#[tactic(auto, unfolding(crate::specs::RowReading::row_in))]
+pub(crate) fn read_row(alloc: Global, cursor: &mut Cursor<'_>) -> Result<RowRef, LineRefusal>
+    ensures found { IfOk result (λ r. cursor.old ≡ row_text r ++ cursor.new) }
+    ensures some { IfOk result (λ r. row_in cursor.old ≡ Some (r, cursor.new)) }
+    ensures none { result ≡ Err BadLine → row_in cursor.old ≡ None }
+{
+    if cursor.accept(b"lin.") {
+        let k = cursor.number()?;
+        return Ok(RowRef::Lin { k });
+    }
+    if cursor.accept(b"link.") {
+        let var = cursor.number()?;
+        return Ok(RowRef::Link { var });
+    }
+    if cursor.accept(b"mean.") {
+        let var = cursor.number()?;
+        return Ok(RowRef::Mean { var });
+    }
+    if cursor.accept(b"clause.") {
+        let (k, clause) = read_pair(cursor)?;
+        return Ok(RowRef::Clause { k, clause });
+    }
+    if cursor.accept(b"when.") {
+        let (k, half) = read_pair(cursor)?;
+        return Ok(RowRef::When { k, half });
+    }
+    if cursor.accept(b"value.") {
+        let (k, value) = read_number_and_whole(cursor)?;
+        return Ok(RowRef::Value { k, value });
+    }
+    if cursor.accept(b"table.") {
+        let k = cursor.number()?;
+        return Ok(RowRef::Table { k });
+    }
+    read_task_row(alloc, cursor)
+}
+
+#[tactic(auto, unfolding(crate::specs::RowReading::term_in))]
+pub(crate) fn read_term(alloc: Global, cursor: &mut Cursor<'_>) -> Result<Term, LineRefusal>
+    ensures found { IfOk result (λ t. cursor.old ≡ term_text t ++ cursor.new) }
+    ensures some { IfOk result (λ t. term_in cursor.old ≡ Some (t, cursor.new)) }
+    ensures none { result ≡ Err BadLine → term_in cursor.old ≡ None }
+{
+    let by = read_fraction(cursor)?;
+    cursor.expect(b"@")?;
+    let row = read_row(alloc, cursor)?;
+    Ok(Term { by, row })
+}

@@ -1,0 +1,140 @@
+//! Verdicts in a line.
+ghost use Rattle.std.specs.Prelude.{◌≡◌, ◌++◌, ◌↔◌, IsTrue, codes, Some, None, Err, IfOk, OnOk};
+ghost use Rattle.sm_step.specs.PartText.{fraction_text};
+ghost use Rattle.sm_step.specs.Text.{best_text, verdict_text};
+ghost use Rattle.sm_step.specs.LineReading.{best_in, bound_in, verdict_in};
+ghost use Rattle.sm_step.specs.Grammar.{IsBest, IsVerdict};
+ghost use Rattle.sm_step.specs.declared.refusal.LineRefusal.TheVariants.{BadLine};
+
+use crate::cursor::Cursor;
+use crate::fraction::{push_fraction, read_fraction};
+use crate::lists::{push_joined, read_joined};
+use crate::refusal::LineRefusal;
+use crate::row_range::is_long_number;
+use crate::short::Short;
+use crate::verdict::Verdict;
+use sm_base::{OutOfMemory, push_whole};
+use sm_frac::Frac;
+use std::alloc::Global;
+
+fn push_best(into: &mut Vec<u8>, best: &Option<Short<Frac>>) -> Result<(), OutOfMemory>
+    ensures { OnOk result (into.new.items ≡ into.old.items ++ best_text best.now) }
+{
+    match best {
+        Some(values) => push_joined(into, b',', values.as_slice()),
+        None => Ok(into.extend_from_slice(b"none")?),
+    }
+}
+
+/// Appends a bound and a best.
+fn push_bound(
+    into: &mut Vec<u8>,
+    bound: &Frac,
+    best: &Option<Short<Frac>>,
+) -> Result<(), OutOfMemory>
+    ensures { OnOk result (into.new.items ≡ into.old.items ++ (fraction_text bound.now ++ codes " " ++ best_text best.now)) }
+{
+    push_fraction(into, bound)?;
+    into.extend_from_slice(b" ")?;
+    push_best(into, best)
+}
+
+pub(crate) fn push_verdict(into: &mut Vec<u8>, verdict: &Verdict) -> Result<(), OutOfMemory>
+    ensures { OnOk result (into.new.items ≡ into.old.items ++ verdict_text verdict.now) }
+{
+    match verdict {
+        Verdict::Optimal { values } => {
+            into.extend_from_slice(b"optimal ")?;
+            push_joined(into, b',', values.as_slice())
+        }
+        Verdict::Satisfied => Ok(into.extend_from_slice(b"satisfied")?),
+        Verdict::Infeasible => Ok(into.extend_from_slice(b"infeasible")?),
+        Verdict::Limit { nodes, bound, best } => {
+            into.extend_from_slice(b"limit ")?;
+            push_whole(into, i128::from(*nodes))?;
+            into.extend_from_slice(b" ")?;
+            push_bound(into, bound, best)
+        }
+        Verdict::Range { bound, best } => {
+            into.extend_from_slice(b"range ")?;
+            push_bound(into, bound, best)
+        }
+    }
+}
+
+#[tactic(auto, unfolding(crate::specs::LineReading::best_in))]
+fn read_best(alloc: Global, cursor: &mut Cursor<'_>) -> Result<Option<Short<Frac>>, LineRefusal>
+    ensures found { IfOk result (λ b. cursor.old ≡ best_text b ++ cursor.new) }
+    ensures some { IfOk result (λ b. best_in cursor.old ≡ Some (b, cursor.new)) }
+    ensures none { result ≡ Err BadLine → best_in cursor.old ≡ None }
+{
+    if cursor.accept(b"none") {
+        return Ok(None);
+    }
+    let values = read_joined(alloc, cursor, b',')?;
+    Ok(Some(values))
+}
+
+/// Reads a bound and a best.
+#[tactic(auto, unfolding(crate::specs::LineReading::bound_in))]
+fn read_bound(
+    alloc: Global,
+    cursor: &mut Cursor<'_>,
+) -> Result<(Frac, Option<Short<Frac>>), LineRefusal>
+    ensures found { IfOk result (λ b. cursor.old ≡ fraction_text b.0 ++ codes " " ++ best_text b.1 ++ cursor.new) }
+    ensures some { IfOk result (λ b. bound_in cursor.old ≡ Some (b, cursor.new)) }
+    ensures none { result ≡ Err BadLine → bound_in cursor.old ≡ None }
+{
+    let bound = read_fraction(cursor)?;
+    cursor.expect(b" ")?;
+    let best = read_best(alloc, cursor)?;
+    Ok((bound, best))
+}
+
+/// Reads a verdict.
+#[tactic(auto, unfolding(crate::specs::LineReading::verdict_in))]
+pub(crate) fn read_verdict(alloc: Global, cursor: &mut Cursor<'_>) -> Result<Verdict, LineRefusal>
+    ensures found { IfOk result (λ v. cursor.old ≡ verdict_text v ++ cursor.new) }
+    ensures some { IfOk result (λ v. verdict_in cursor.old ≡ Some (v, cursor.new)) }
+    ensures none { result ≡ Err BadLine → verdict_in cursor.old ≡ None }
+{
+    if cursor.accept(b"optimal ") {
+        let values = read_joined(alloc, cursor, b',')?;
+        return Ok(Verdict::Optimal { values });
+    }
+    if cursor.accept(b"satisfied") {
+        return Ok(Verdict::Satisfied);
+    }
+    if cursor.accept(b"infeasible") {
+        return Ok(Verdict::Infeasible);
+    }
+    if cursor.accept(b"limit ") {
+        let nodes = cursor.long_number()?;
+        cursor.expect(b" ")?;
+        let (bound, best) = read_bound(alloc, cursor)?;
+        return Ok(Verdict::Limit { nodes, bound, best });
+    }
+    cursor.expect(b"range ")?;
+    let (bound, best) = read_bound(alloc, cursor)?;
+    Ok(Verdict::Range { bound, best })
+}
+
+fn is_best(best: &Option<Short<Frac>>) -> bool
+    ensures { IsTrue result ↔ IsBest best.now }
+{
+    match best {
+        Some(values) => !values.as_slice().is_empty(),
+        None => true,
+    }
+}
+
+pub(crate) fn is_verdict(verdict: &Verdict) -> bool
+    ensures { IsTrue result ↔ IsVerdict verdict.now }
+{
+    match verdict {
+        Verdict::Optimal { values } => !values.as_slice().is_empty(),
+        Verdict::Satisfied | Verdict::Infeasible => true,
+        Verdict::Limit { nodes, best, .. } => is_long_number(*nodes) && is_best(best),
+        Verdict::Range { best, .. } => is_best(best),
+    }
+}

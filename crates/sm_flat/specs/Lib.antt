@@ -4,6 +4,7 @@ pub mod Assignments
 pub mod Points
 pub mod Sums
 pub mod Sat
+pub mod Clauses
 pub mod Goals
 pub mod Solutions
 pub mod Limits

@@ -3,6 +3,7 @@
 #![tactic(auto)]
 
 mod assignment;
+mod clause;
 mod flat;
 mod form;
 mod goal;
@@ -16,6 +17,7 @@ mod tests;
 mod var;
 
 pub use assignment::{Assignment, is_assignment};
+pub use clause::Clause;
 pub use flat::Flat;
 pub use form::{Constraint, Form, Kind, kind_of};
 pub use goal::{Goal, Sense, value};

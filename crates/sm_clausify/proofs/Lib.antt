@@ -1,0 +1,7 @@
+pub mod Joins
+pub mod Caps
+pub mod Counting
+pub mod Views
+pub mod Parts
+pub mod Signs
+pub mod Satisfied

@@ -1,0 +1,3 @@
+pub mod Propositions
+pub mod Clauses
+pub mod Truth

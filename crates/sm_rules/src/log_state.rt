@@ -428,4 +428,11 @@ impl LogState {
     {
         self.best
     }
+
+    /// The verdict, in place of the state.
+    pub fn into_verdict(self) -> Option<Verdict>
+        ensures { result ≡ self.verdict }
+    {
+        self.verdict
+    }
 }

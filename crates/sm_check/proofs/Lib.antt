@@ -1,0 +1,6 @@
+pub mod Cutting
+pub mod Ends
+pub mod Feeding
+pub mod Outcomes
+pub mod Truths
+pub mod Readings

@@ -1,0 +1,4 @@
+pub mod Replays
+pub mod Checks
+pub mod Feeds
+pub mod Readings

@@ -1,5 +1,5 @@
 -- Each line of a depth-first search keeps what holds of the search all along.
-use Rattle.std.proofs.Common.{◌≡◌, ◌≢◌, ℕ, ◌<◌, ◌⊎◌, Bool, true, false, cond, List, [], ◌∷◌, None, length, refl, arith, inl, inr, get_or-set_same, get_or-set_other}
+use Rattle.std.proofs.Common.{◌≡◌, ◌≢◌, ℕ, ◌<◌, ◌≤◌, ◌⊎◌, Bool, true, false, cond, List, [], ◌∷◌, None, length, refl, arith, inl, inr, get_or-set_same, get_or-set_other}
 use Rattle.std.specs.Prelude.{ℤ, pos, ◌*ℤ◌, ◌<ℤ◌, ◌≤ℤ◌, All, int_lt, unsigned_abs}
 use Rattle.std.proofs.lemmas.Int.{ints}
 use Rattle.std.proofs.lemmas.Bool.{cases_eq}
@@ -30,7 +30,8 @@ use Rattle.sm_rules.specs.Laws.{Allowed}
 use Rattle.sm_rules.specs.Steps.{after, start}
 use Rattle.sm_rules.specs.Sound.{Sound, IsOf, IsNodeOf}
 use Rattle.sm_rules.proofs.Keeping.{all_at, sound_after, sound_start, verdict_is_true}
-use Rattle.sm_search.specs.Fits.{AreFilled, IsFilled, IsRaised, IsOnly, IsFit, IsOwn}
+use Rattle.sm_step.specs.Grammar.{IsLiteral}
+use Rattle.sm_search.specs.Fits.{AreFilled, IsFilled, IsRaised, IsOnly, IsFit, IsOwn, IsNear}
 use Rattle.sm_search.proofs.NodeLists.{all_set, all_without, all_pruned, NotOpen, none_open_set, none_open_without, none_open, only_of_none}
 
 -- ---- values left
@@ -87,6 +88,20 @@ parent_raised m store floors Open l = tt
 parent_raised m store floors (Half first) l = tt
 parent_raised m store floors (Split first) l = tt
 
+near_of : (store : List Extent) (l : Literal) → length store ≤ 4096 → Narrows store l → IsLiteral l
+near_of store l few narrows = (omega (arith, narrows.known, few), narrows.bounded)
+
+parent_near : (store : List Extent) (status : Status) (l : Literal) → length store ≤ 4096 → LawfulChild store status l → IsNear (with_child status l)
+parent_near store Open l few law = near_of store (complement l) few law.1
+parent_near store (Half first) l few law = tt
+parent_near store (Split first) l few law = tt
+
+-- what a child's literal is, where the node above has its store and status
+pub child_near : (store : List Extent) (status : Status) (l : Literal) → length store ≤ 4096 → LawfulChild store status l → IsNear status → IsLiteral l
+child_near store Open l few law near = near_of store l few law.0
+child_near store (Half first) l few law near = rw law near
+child_near store (Split first) l few law near = absurd law
+
 with_child_not_open : (status : Status) (l : Literal) → with_child status l ≢ Open
 with_child_not_open Open l e = absurd (cc)
 with_child_not_open (Half first) l e = absurd (cc)
@@ -113,6 +128,7 @@ module _ (m : FlatModel) (s : State) (fit : IsFit m s) where
         only = All-push (λ (n : NodeView). IsOnly s.main.count n) (set_node s.main.nodes parent new) child (only_of_none s.main.count (set_node s.main.nodes parent new) none) (λ e. refl);
         filled = All-push (λ (n : NodeView). IsFilled n.store n.status) (set_node s.main.nodes parent new) child (all_set (λ (n : NodeView). IsFilled n.store n.status) s.main.nodes parent new (parent_filled old.store old.status l ok.law (filled_at parent ok.due.order.takes)) fit.filled) (child_filled old.store old.status l ok.law (filled_at parent ok.due.order.takes));
         raised = All-push (λ (n : NodeView). IsRaised m n.store n.floors n.status) (set_node s.main.nodes parent new) child (all_set (λ (n : NodeView). IsRaised m n.store n.floors n.status) s.main.nodes parent new (parent_raised m old.store old.floors old.status l) fit.raised) (raised_ge old.floors (least_costs m.goals (narrow old.store l)) (rw (length-map {B = ℤ × ℤ} m.goals (λ g. (least_cost (narrow old.store l) g, pos 1))) node.floors) node.positive (least_positive m.goals (narrow old.store l)));
+        near = All-push (λ (n : NodeView). IsNear n.status) (set_node s.main.nodes parent new) child (all_set (λ (n : NodeView). IsNear n.status) s.main.nodes parent new (parent_near old.store old.status l (omega (arith, node.store.wide, fit.of.flat.vars.few)) ok.law) fit.near) tt;
       }
     where
       none_after : (parent : ℕ) (new : NodeView) → NotOpen new → (parent ≡ s.main.focus) ⊎ ((focus_of s.main).status ≢ Open) → All NotOpen (set_node s.main.nodes parent new)
@@ -134,6 +150,7 @@ module _ (m : FlatModel) (s : State) (fit : IsFit m s) where
         only = only_of_none s.main.focus (pruned ns) none;
         filled = all_pruned (λ (n : NodeView). IsFilled n.store n.status) ns (all_without (λ (n : NodeView). IsFilled n.store n.status) s.main.nodes s.main.focus fit.filled);
         raised = all_pruned (λ (n : NodeView). IsRaised m n.store n.floors n.status) ns (all_without (λ (n : NodeView). IsRaised m n.store n.floors n.status) s.main.nodes s.main.focus fit.raised);
+        near = all_pruned (λ (n : NodeView). IsNear n.status) ns (all_without (λ (n : NodeView). IsNear n.status) s.main.nodes s.main.focus fit.near);
       } in
       rw e fit'
 
@@ -141,12 +158,12 @@ pub fit_after : (m : FlatModel) (s : State) (l : Line) → IsFit m s → IsOwn s
 fit_after m s l fit first ok of = by_line l first ok of (sound_after m (λ _. true) s l fit.of ok (λ i d lt. refl) fit.sound)
   where
     by_line : (l : Line) → IsOwn s l → Allowed m s l → IsOf m (after m s l) → Sound m (λ _. true) (after m s l) → IsFit m (after m s l)
-    by_line (line.Header version) first ok of sound = record { of = of; sound = sound; says = rw ok.due.running tt; whole = fit.whole; only = fit.only; filled = fit.filled; raised = fit.raised }
+    by_line (line.Header version) first ok of sound = record { of = of; sound = sound; says = rw ok.due.running tt; whole = fit.whole; only = fit.only; filled = fit.filled; raised = fit.raised; near = fit.near }
     by_line (line.Node id parent l) first ok of sound = opened m s fit id parent l first ok of sound
     by_line line.CloseFloor first ok of sound = closed m s fit line.CloseFloor refl ok.due.running of sound
     by_line (line.Violated k) first ok of sound = closed m s fit (line.Violated k) refl ok.due.running of sound
-    by_line (line.Sol d vs) first ok of sound = record { of = of; sound = sound; says = rw ok.due.running tt; whole = first; only = fit.only; filled = fit.filled; raised = fit.raised }
-    by_line (line.Verdict v) first ok of sound = record { of = of; sound = sound; says = verdict_is_true m (λ _. true) s v fit.sound ok.law; whole = fit.whole; only = fit.only; filled = fit.filled; raised = fit.raised }
+    by_line (line.Sol d vs) first ok of sound = record { of = of; sound = sound; says = rw ok.due.running tt; whole = first; only = fit.only; filled = fit.filled; raised = fit.raised; near = fit.near }
+    by_line (line.Verdict v) first ok of sound = record { of = of; sound = sound; says = verdict_is_true m (λ _. true) s v fit.sound ok.law; whole = fit.whole; only = fit.only; filled = fit.filled; raised = fit.raised; near = fit.near }
     by_line _ first ok of sound = absurd ok.law
 
 some_value : (kind : VarKind) (values : List ℤ) → IsDomain kind values → 0 < length values
@@ -167,4 +184,5 @@ fit_start m of = record {
   only = All-cons (λ (n : NodeView). IsOnly 0 n) _ [] (λ e. refl) (All-nil _);
   filled = All-cons (λ (n : NodeView). IsFilled n.store n.status) _ [] (declared_filled m of.flat) (All-nil _);
   raised = All-cons (λ (n : NodeView). IsRaised m n.store n.floors n.status) _ [] (floors_same (least_costs m.goals (declared m.vars))) (All-nil _);
+  near = All-cons (λ (n : NodeView). IsNear n.status) _ [] tt (All-nil _);
 }

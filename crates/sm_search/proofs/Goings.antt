@@ -7,7 +7,9 @@ use Rattle.sm_base.specs.Causes.{Rose}
 use Rattle.sm_base.specs.Bytes.{AppendsFront}
 use Rattle.sm_flat.specs.Models.{FlatModel}
 use Rattle.sm_step.specs.declared.line.Line.{Line}
+use Rattle.std.proofs.lemmas.List.Elements.{All-nil, All-cons, All-append}
 use Rattle.sm_step.specs.Text.{text_of, body_text}
+use Rattle.sm_step.specs.Grammar.{IsLine}
 use Rattle.sm_rules.specs.States.{State}
 use Rattle.sm_rules.specs.Laws.{Allowed}
 use Rattle.sm_rules.specs.Steps.{after, Replays}
@@ -34,11 +36,12 @@ replays_append m a b c [] ys one two = rw one at two
 replays_append m a b c (x ∷ xs) ys one two = (one.0, replays_append m (after m a x) b c xs ys one.1 two)
 
 pub went_none : (m : FlatModel) (p : Place) (x : Option (List ℕ)) → Went m p p x x
-went_none m p x = record { put = []; told = appends_none x; runs = refl; bytes = sym (add-zero p.bytes) }
+went_none m p x = record { put = []; each = All-nil IsLine; told = appends_none x; runs = refl; bytes = sym (add-zero p.bytes) }
 
-pub went_one : (m : FlatModel) (old new : Place) (before now : Option (List ℕ)) (l : Line) → Allowed m old.state l → new.state ≡ after m old.state l → new.bytes ≡ old.bytes + length (text_of l) → Appends before now (text_of l) → Went m old new before now
-went_one m old new before now l ok state bytes told = record {
+pub went_one : (m : FlatModel) (old new : Place) (before now : Option (List ℕ)) (l : Line) → IsLine l → Allowed m old.state l → new.state ≡ after m old.state l → new.bytes ≡ old.bytes + length (text_of l) → Appends before now (text_of l) → Went m old new before now
+went_one m old new before now l good ok state bytes told = record {
   put = l ∷ [];
+  each = All-cons IsLine l [] good (All-nil IsLine);
   told = rw (append-nil (text_of l)) told;
   runs = (ok, state);
   bytes = rw (append-nil (text_of l)) bytes;
@@ -47,6 +50,7 @@ went_one m old new before now l ok state bytes told = record {
 pub went_more : (m : FlatModel) (a b c : Place) (x y z : Option (List ℕ)) → Went m a b x y → Went m b c y z → Went m a c x z
 went_more m a b c x y z one two = record {
   put = one.put ++ two.put;
+  each = All-append IsLine one.put two.put one.each two.each;
   told = rw (texts-append one.put two.put) (appends_both x y z (texts one.put) (texts two.put) one.told two.told);
   runs = replays_append m a.state b.state c.state one.put two.put one.runs two.runs;
   bytes = rw (texts-append one.put two.put, length-append (texts one.put) (texts two.put)) (omega (arith, one.bytes, two.bytes));
@@ -69,6 +73,7 @@ cause_at m s i j a b r e cause = let P : ℕ → Type 0 = λ n. IsStopCause m s 
 pub stopped_none : (m : FlatModel) (p : Place) (x : Option (List ℕ)) (a b : ℕ) (r : WorkRefusal) → r ≡ OutOfMemory → Stopped m p x x a b r
 stopped_none m p x a b r e = record {
   put = [];
+  each = All-nil IsLine;
   reached = p.state;
   runs = refl;
   rest = [];
@@ -81,6 +86,7 @@ stopped_none m p x a b r e = record {
 pub stopped_long : (m : FlatModel) (p : Place) (x : Option (List ℕ)) (a b : ℕ) (r : WorkRefusal) → r ≡ LogTooLong → PassesLimit m p.state p.bytes → Stopped m p x x a b r
 stopped_long m p x a b r e passes = record {
   put = [];
+  each = All-nil IsLine;
   reached = p.state;
   runs = refl;
   rest = [];
@@ -90,13 +96,14 @@ stopped_long m p x a b r e passes = record {
 }
 
 -- a put took some front of a line
-pub stopped_front : (m : FlatModel) (p : Place) (x y : Option (List ℕ)) (a b : ℕ) (r : WorkRefusal) (l : Line) → r ≡ WriteFault → Allowed m p.state l → Rose a b → AppendsFront x y (text_of l) → Stopped m p x y a b r
-stopped_front m p x y a b r l e ok rose (n, within, told) = record {
+pub stopped_front : (m : FlatModel) (p : Place) (x y : Option (List ℕ)) (a b : ℕ) (r : WorkRefusal) (l : Line) → r ≡ WriteFault → IsLine l → Allowed m p.state l → Rose a b → AppendsFront x y (text_of l) → Stopped m p x y a b r
+stopped_front m p x y a b r l e good ok rose (n, within, told) = record {
   put = [];
+  each = All-nil IsLine;
   reached = p.state;
   runs = refl;
   rest = take n (text_of l);
-  front = inr (record { next = l; allowed = ok; count = n; within = within; is = refl });
+  front = inr (record { next = l; good = good; allowed = ok; count = n; within = within; is = refl });
   told = told;
   cause = rw e rose;
 }
@@ -105,6 +112,7 @@ stopped_front m p x y a b r l e ok rose (n, within, told) = record {
 pub stopped_more : (m : FlatModel) (p q : Place) (x y z : Option (List ℕ)) (a b c : ℕ) (r : WorkRefusal) → a ≤ b → Went m p q x y → Stopped m q y z b c r → Stopped m p x z a c r
 stopped_more m p q x y z a b c r le one two = record {
   put = one.put ++ two.put;
+  each = All-append IsLine one.put two.put one.each two.each;
   reached = two.reached;
   runs = replays_append m p.state q.state two.reached one.put two.put one.runs two.runs;
   rest = two.rest;
@@ -136,9 +144,9 @@ text_some l = let e = length-append (body_text l) (codes "\n") in omega arith
 
 -- ---- one line
 
-pub put_went : (m : FlatModel) (old new : Place) (x y : Option (List ℕ)) (l : Line) (items : List ℕ) (bytes n : ℕ) → Allowed m old.state l → new ≡ record { state = after m old.state l; bytes = bytes } → bytes ≡ old.bytes + n → n ≡ length (text_of l) → items ≡ text_of l → Appends x y items → Went m old new x y
-put_went m old new x y l items bytes n ok e counted long is told =
-    went_one m old new x y l ok (ap (λ (p : Place). p.state) e) (ap (λ (p : Place). p.bytes) e ∙ (counted ∙ ap (λ (k : ℕ). old.bytes + k) long)) (rw is at told)
+pub put_went : (m : FlatModel) (old new : Place) (x y : Option (List ℕ)) (l : Line) (items : List ℕ) (bytes n : ℕ) → IsLine l → Allowed m old.state l → new ≡ record { state = after m old.state l; bytes = bytes } → bytes ≡ old.bytes + n → n ≡ length (text_of l) → items ≡ text_of l → Appends x y items → Went m old new x y
+put_went m old new x y l items bytes n good ok e counted long is told =
+    went_one m old new x y l good ok (ap (λ (p : Place). p.state) e) (ap (λ (p : Place). p.bytes) e ∙ (counted ∙ ap (λ (k : ℕ). old.bytes + k) long)) (rw is at told)
 
-pub put_stopped : (m : FlatModel) (old : Place) (x y : Option (List ℕ)) (a b : ℕ) (l : Line) (items : List ℕ) → Allowed m old.state l → items ≡ text_of l → Rose a b → AppendsFront x y items → Stopped m old x y a b WriteFault
-put_stopped m old x y a b l items ok is rose front = stopped_front m old x y a b WriteFault l refl ok rose (rw is at front)
+pub put_stopped : (m : FlatModel) (old : Place) (x y : Option (List ℕ)) (a b : ℕ) (l : Line) (items : List ℕ) → IsLine l → Allowed m old.state l → items ≡ text_of l → Rose a b → AppendsFront x y items → Stopped m old x y a b WriteFault
+put_stopped m old x y a b l items good ok is rose front = stopped_front m old x y a b WriteFault l refl good ok rose (rw is at front)

@@ -6,3 +6,4 @@ pub mod Goings
 pub mod Splitting
 pub mod Lines
 pub mod Solved
+pub mod Grammar

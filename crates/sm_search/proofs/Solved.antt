@@ -15,7 +15,7 @@ pub solved_by : (m : FlatModel) (p q r : Place) (x y z : Option (List ℕ)) (e :
 solved_by m p q r x y z e is one two fit ended =
     let P : Place → Type 0 = λ s. Went m s r x z in
     let says : IfSome (Some ended.verdict) (IsTrueOf m r.state.best) = rw ended.stands at fit.says in
-    record { place = r; went = subst P is (went_more m p q r x y z one two); ended = ended; holds = says }
+    record { flat = fit.of.flat; place = r; went = subst P is (went_more m p q r x y z one two); ended = ended; holds = says }
 
 -- the first line stopped
 pub stopped_first : (m : FlatModel) (p : Place) (x y : Option (List ℕ)) (a b : ℕ) (r : WorkRefusal) → p ≡ begin m → Stopped m p x y a b r → Stopped m (begin m) x y a b r

@@ -5,6 +5,7 @@ use Rattle.sm_flat.specs.Models.{FlatModel}
 use Rattle.sm_store.specs.Stores.{Extent, extent_at, narrow}
 use Rattle.sm_step.specs.declared.line.Line.{Line}
 use Rattle.sm_step.specs.declared.line.Line.TheVariants as line
+use Rattle.sm_step.specs.Grammar.{IsLiteral}
 use Rattle.sm_step.specs.Verdicts.{IsTrueOf}
 use Rattle.sm_rules.specs.declared.node.Status.{Status}
 use Rattle.sm_rules.specs.declared.node.Status.TheVariants.{Open, Half, Split}
@@ -31,6 +32,12 @@ IsRaised m store floors Open = AreFloors (numbers_of (least_costs m.goals store)
 IsRaised m store floors (Half l) = Unit {0}
 IsRaised m store floors (Split l) = Unit {0}
 
+-- the literal of the half that has no child yet is one of the grammar
+abbrev pub IsNear : Status → Type 0
+IsNear Open = Unit {0}
+IsNear (Half first) = IsLiteral (complement first)
+IsNear (Split first) = Unit {0}
+
 -- no node is open but the focus
 abbrev pub IsOnly : ℕ → NodeView → Type 0
 IsOnly focus n = n.status ≡ Open → n.number ≡ focus
@@ -43,6 +50,7 @@ pub record IsFit (m : FlatModel) (s : State) : Type 0 where
   pub only : All (λ (n : NodeView). IsOnly s.main.focus n) s.main.nodes
   pub filled : All (λ (n : NodeView). IsFilled n.store n.status) s.main.nodes
   pub raised : All (λ (n : NodeView). IsRaised m n.store n.floors n.status) s.main.nodes
+  pub near : All (λ (n : NodeView). IsNear n.status) s.main.nodes
 
 -- A line of this loop's own: a child opens under the focus, or where the focus isn't open any more, and a solution has whole values.
 abbrev pub IsOwn : State → Line → Type 0

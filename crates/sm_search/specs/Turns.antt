@@ -1,6 +1,7 @@
 -- What the parts of a turn come to.
 use Rattle.std.specs.Prelude.{◌≡◌, ℕ, ◌<◌, List, Some, Option}
 use Rattle.sm_flat.specs.Models.{FlatModel}
+use Rattle.sm_flat.specs.Limits.{IsFlat}
 use Rattle.sm_step.specs.declared.verdict.Verdict.{Verdict}
 use Rattle.sm_step.specs.declared.verdict.Verdict.TheVariants.{Optimal, Satisfied, Infeasible}
 use Rattle.sm_step.specs.Verdicts.{IsTrueOf}
@@ -43,8 +44,9 @@ pub record IsReached (m : FlatModel) (old new : State) : Type 0 where
   pub same : new.main ≡ old.main
   pub beats : BeatsBest m (focus_of new.main).floors new.best
 
--- some lines were put, each allowed in its turn, that end in a verdict of this ending, which is true
+-- some lines of the grammar were put, each allowed in its turn, that end in a verdict of this ending, which is true
 pub record HasSolved (m : FlatModel) (before now : Option (List ℕ)) (e : Ending) : Type 0 where
+  pub flat : IsFlat m
   pub place : Place
   pub went : Went m (begin m) place before now
   pub ended : HasEnded place.state e

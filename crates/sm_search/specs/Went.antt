@@ -1,11 +1,12 @@
 -- What a call put: lines, each allowed in its turn.
-use Rattle.std.specs.Prelude.{◌≡◌, ◌++◌, ◌+◌, ◌⊎◌, ◌^◌, ◌<◌, ℕ, ◌≤◌, List, [], length, take, Option}
+use Rattle.std.specs.Prelude.{◌≡◌, ◌++◌, ◌+◌, ◌⊎◌, ◌^◌, ◌<◌, ℕ, ◌≤◌, List, [], length, take, All, Option}
 use Rattle.std.specs.List.{flat_map}
 use Rattle.std.specs.Io.KnownBytes.{Appends}
 use Rattle.sm_base.specs.Causes.{Rose}
 use Rattle.sm_flat.specs.Models.{FlatModel}
 use Rattle.sm_step.specs.declared.line.Line.{Line}
 use Rattle.sm_step.specs.Text.{text_of}
+use Rattle.sm_step.specs.Grammar.{IsLine}
 use Rattle.sm_rules.specs.States.{State}
 use Rattle.sm_rules.specs.Laws.{Allowed}
 use Rattle.sm_rules.specs.Steps.{Replays, start}
@@ -29,16 +30,18 @@ begin m = record { state = start m; bytes = 0 }
 abbrev pub texts : List Line → List ℕ
 texts lines = flat_map text_of lines
 
--- from one place to another by lines whose text was put
+-- from one place to another by lines of the grammar whose text was put
 pub record Went (m : FlatModel) (old new : Place) (before now : Option (List ℕ)) : Type 0 where
   pub put : List Line
+  pub each : All IsLine put
   pub told : Appends before now (texts put)
   pub runs : Replays m old.state put new.state
   pub bytes : new.bytes ≡ old.bytes + length (texts put)
 
--- some front of the text of a line that the state allows
+-- some front of the text of a line of the grammar that the state allows
 pub record IsFrontOfNext (m : FlatModel) (s : State) (rest : List ℕ) : Type 0 where
   pub next : Line
+  pub good : IsLine next
   pub allowed : Allowed m s next
   pub count : ℕ
   pub within : count ≤ length (text_of next)
@@ -59,6 +62,7 @@ IsStopCause m s bytes before now OutOfMemory = Unit {0}
 -- the call stopped: some lines were put, each allowed in its turn, and then nothing or some front of one more allowed line's text
 pub record Stopped (m : FlatModel) (old : Place) (before now : Option (List ℕ)) (faults_before faults_now : ℕ) (refusal : WorkRefusal) : Type 0 where
   pub put : List Line
+  pub each : All IsLine put
   pub reached : State
   pub runs : Replays m old.state put reached
   pub rest : List ℕ

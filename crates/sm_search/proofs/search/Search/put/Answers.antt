@@ -1,6 +1,8 @@
-use Rattle.std.proofs.Common.{◌≡◌, ◌+◌, ap, arith, ◌∙◌}
+use Rattle.std.proofs.Common.{◌≡◌, ◌≤◌, ◌+◌, ◌^◌, ap, arith, rules, ◌∙◌}
 use Rattle.sm_search.specs.Went.{Place}
+use Rattle.sm_step.specs.Grammar.{IsLine}
 use Rattle.sm_search.proofs.Goings.{text_some, put_went, put_stopped}
+use Rattle.sm_search.proofs.Grammar.{own_line}
 use Rattle.sm_search.proofs.search.Search.put.Goals as goal
 
 pub apply-requires-clause-more : goal.apply-requires-clause-more
@@ -12,8 +14,13 @@ apply-requires-clause-more g c =
 pub returns-in-Ok-clause-went : goal.returns-in-Ok-clause-went
 returns-in-Ok-clause-went g c =
     let same : c.self.inside.bytes ≡ c.args.self.now.bytes = ap (λ (p : Place). p.bytes) c.self.view_is in
-    put_went c.args.flat.now c.args.self.now c.apply.new.self _ _ c.args.line.now c.as_slice.result.now (c.self.inside.bytes + c.len.result) c.len.result c.requires.allowed c.in_ok-apply.ensures.ok (ap (λ k. k + c.len.result) same) (c.len.ensures ∙ c.in_ok-text.ensures.len) (c.as_slice.ensures.value ∙ c.in_ok-text.ensures.text) c.in-Ok.ensures.ok
+    let within : c.self.inside.bytes + c.len.result ≤ 2 ^ 40 = search rules in
+    let good : IsLine c.args.line.now = own_line c.args.flat.now c.args.self.now c.args.line.now c.requires.fit (rw (← c.self.view_is) c.self.invariant) c.requires.allowed c.requires.own (omega (arith, same, c.len.ensures, c.in_ok-text.ensures.len, within)) in
+    put_went c.args.flat.now c.args.self.now c.apply.new.self _ _ c.args.line.now c.as_slice.result.now (c.self.inside.bytes + c.len.result) c.len.result good c.requires.allowed c.in_ok-apply.ensures.ok (ap (λ k. k + c.len.result) same) (c.len.ensures ∙ c.in_ok-text.ensures.len) (c.as_slice.ensures.value ∙ c.in_ok-text.ensures.text) c.in-Ok.ensures.ok
 
 pub returns-clause-stopped : goal.returns-clause-stopped
 returns-clause-stopped g c =
-    put_stopped c.args.flat.now c.args.self.now _ _ _ _ c.args.line.now c.as_slice.result.now c.requires.allowed (c.as_slice.ensures.value ∙ c.in_ok-text.ensures.text) c.in-Err.ensures.fault c.in-Err.ensures.front
+    let same : c.self.inside.bytes ≡ c.args.self.now.bytes = ap (λ (p : Place). p.bytes) c.self.view_is in
+    let within : c.self.inside.bytes + c.len.result ≤ 2 ^ 40 = search rules in
+    let good : IsLine c.args.line.now = own_line c.args.flat.now c.args.self.now c.args.line.now c.requires.fit (rw (← c.self.view_is) c.self.invariant) c.requires.allowed c.requires.own (omega (arith, same, c.len.ensures, c.in_ok-text.ensures.len, within)) in
+    put_stopped c.args.flat.now c.args.self.now _ _ _ _ c.args.line.now c.as_slice.result.now good c.requires.allowed (c.as_slice.ensures.value ∙ c.in_ok-text.ensures.text) c.in-Err.ensures.fault c.in-Err.ensures.front

@@ -1,6 +1,10 @@
-//! An optimiser whose answers are proved: `simpl solve MODEL` writes the proof log of a search, which ends in the verdict.
+//! An optimiser whose answers are proved: `simpl solve MODEL` writes the proof log of a search, which ends in the verdict,
+//! and `simpl check MODEL LOG` says whether a log proves its verdict.
 #![tactic(auto)]
 
+mod checking;
+#[cfg(test)]
+mod log_tests;
 mod run;
 mod stop;
 #[cfg(test)]

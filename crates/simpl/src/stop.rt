@@ -8,7 +8,7 @@ use std::alloc::{AllocError, AllocFailed};
 /// Why a run ends without a verdict.
 #[derive(Clone, Copy, Debug, PartialEq, Eq)]
 pub enum Stop {
-    /// The words aren't `solve MODEL`.
+    /// The words aren't a command line.
     Usage,
     /// The shelf failed.
     ReadFault,
@@ -16,6 +16,8 @@ pub enum Stop {
     TooLarge,
     /// The text is no model of the early language.
     Early,
+    /// The log file is longer than 2^40 bytes.
+    TooLong,
     /// The search stopped.
     Work(WorkRefusal),
     /// Memory ran out before anything was put.

@@ -13,7 +13,7 @@ fn solve_words(alloc: Global) -> Result<Vec<String>, Fail> {
 }
 
 /// A run of `solve m` where the shelf has this text as the file `m`, and the puts of these numbers fail.
-fn solved(alloc: Global, text: &[u8], failing: &[u64]) -> Result<(u8, MemSink), Fail> {
+pub(crate) fn solved(alloc: Global, text: &[u8], failing: &[u64]) -> Result<(u8, MemSink), Fail> {
     let mut shelf = MemShelf::new(alloc, &[])?;
     shelf.add("m", text)?;
     let mut out = MemSink::new(alloc, 10_000, 10_000, failing)?;
@@ -72,6 +72,21 @@ fn a_failed_put_leaves_a_front_of_the_log(rt: HostRuntime) -> Result<(), Fail> {
     let (status, out) = outcome(alloc, &["solve", "m"], text, &[3])?;
     assert_eq!(rt; status, 11);
     assert_eq!(rt; out.written(), b"simpl-log 1\nsol 1 2\n".as_slice());
+    Ok(())
+}
+
+#[test]
+fn the_first_models_have_their_logs(rt: HostRuntime) -> Result<(), Fail> {
+    let alloc = rt.alloc();
+    let costs = b"var x : set 0..5; var y : set 0..5; post x + y >= 7; minimise 2*x + 3*y;";
+    let (status, out) = solved(alloc, costs, &[])?;
+    assert_eq!(rt; status, 0);
+    assert!(rt; out.written().starts_with(b"simpl-log 1\n"));
+    assert!(rt; out.written().ends_with(b"\nverdict optimal 16\n"));
+    let (status, out) = solved(alloc, b"satisfy;", &[])?;
+    let found = b"simpl-log 1\nsol 1\nclose floor\nverdict satisfied\n";
+    assert_eq!(rt; status, 0);
+    assert_eq!(rt; out.written(), found.as_slice());
     Ok(())
 }
 
@@ -162,7 +177,7 @@ fn next(state: u64) -> u64 {
 
 /// The coefficients and bounds of a small model over x and y.
 #[derive(Clone, Copy)]
-struct Small {
+pub(crate) struct Small {
     row: (i64, i64, i64),
     other: (i64, i64, i64),
     goal: (i64, i64),
@@ -174,7 +189,7 @@ fn drawn(state: u64) -> i64 {
 }
 
 impl Small {
-    fn draw(seed: u64) -> Small {
+    pub(crate) fn draw(seed: u64) -> Small {
         let a = next(seed);
         let b = next(a);
         let c = next(b);
@@ -210,7 +225,7 @@ impl Small {
         least
     }
 
-    fn text(&self, alloc: Global) -> Result<Vec<u8>, Fail> {
+    pub(crate) fn text(&self, alloc: Global) -> Result<Vec<u8>, Fail> {
         let mut text = Vec::from_slice(alloc, b"var x : set 0..3; var y : set 0..3; post 0*x")?;
         push_sum(&mut text, self.row.0, self.row.1)?;
         text.extend_from_slice(b" >= ")?;

@@ -20,17 +20,6 @@ pub struct Literal {
     pub bound: i64,
 }
 
-impl Default for Literal {
-    /// The first variable is at most 0: a filler for places that nothing reads.
-    fn default() -> Literal {
-        Literal {
-            var: 0,
-            test: Test::AtMost,
-            bound: 0,
-        }
-    }
-}
-
 impl Literal {
     /// The literal that is true of exactly the whole numbers of which this one is false.
     pub fn complement(self) -> Literal

@@ -7,10 +7,9 @@ use crate::cursor::Cursor;
 use crate::refusal::LineRefusal;
 use sm_base::{OutOfMemory, push_whole};
 use std::alloc::Global;
-use std::default::MadeWith;
 
 /// A part of a line.
-pub(crate) trait Part: Sized + Drop + MadeWith<Global> {
+pub(crate) trait Part: Sized + Drop {
     /// Its text.
     ghost text: { Self → List ℕ };
 

@@ -17,13 +17,6 @@ use std::alloc::Global;
 /// The greatest length of a line other than `norange`, with its end.
 const LENGTHS: usize = 1 << 24;
 
-/// The refusal of bytes that hold a line and then no end. The line is dropped here, since its drop has many cases.
-fn refusal_behind(_line: Line) -> LineRefusal
-    ensures { result ≡ BadLine }
-{
-    LineRefusal::BadLine
-}
-
 /// Reads a whole line, with its end.
 #[tactic(auto, unfolding(crate::specs::LineReading::line_in, crate::specs::Text::text_of))]
 fn read_line(alloc: Global, bytes: &[u8]) -> Result<Line, LineRefusal>
@@ -36,7 +29,7 @@ fn read_line(alloc: Global, bytes: &[u8]) -> Result<Line, LineRefusal>
     if cursor.accept(b"\n") && cursor.is_at_end() {
         Ok(line)
     } else {
-        Err(refusal_behind(line))
+        Err(LineRefusal::BadLine)
     }
 }
 

@@ -327,26 +327,3 @@ fn verdicts_out_of_form_are_refused(rt: HostRuntime) {
     ];
     refuse(&rt, rt.alloc(), &texts)
 }
-
-/// A solution of one number so many times and a last one.
-fn long_solution(alloc: Global, number: &[u8], times: usize, last: &[u8]) -> Result<Vec<u8>, Fail> {
-    let mut text = b"sol 1".to_vec(alloc)?;
-    for _ in 0..times {
-        text.extend_from_slice(number)?;
-    }
-    text.extend_from_slice(last)?;
-    Ok(text)
-}
-
-#[test]
-fn a_line_has_at_most_16_777_216_bytes(rt: HostRuntime) -> Result<(), Fail> {
-    let greatest = b" 170141183460469231731687303715884105727";
-    let longest = long_solution(rt.alloc(), greatest, 419_430, b" 123456789\n")?;
-    assert_eq!(rt; longest.len(), 16_777_216);
-    assert!(rt; read(rt.alloc(), longest.as_slice()).is_ok());
-    let longer = long_solution(rt.alloc(), b" 0", 8_388_604, b" 10\n")?;
-    assert_eq!(rt; longer.len(), 16_777_217);
-    let refused = read(rt.alloc(), longer.as_slice());
-    assert_eq!(rt; refused.err(), Some(LineRefusal::BadLine));
-    Ok(())
-}

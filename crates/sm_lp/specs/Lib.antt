@@ -1,0 +1,17 @@
+pub mod Signs
+pub mod Dictionary
+pub mod Moves
+pub mod Rule
+pub mod Numbers
+pub mod Program
+pub mod Conditions
+pub mod First
+pub mod Steps
+pub mod Table
+pub mod Turn
+pub mod Moved
+pub mod Writing
+pub mod Path
+pub mod Ending
+pub mod Answer
+pub mod Laws

@@ -1,0 +1,88 @@
+//! Which programs can be solved.
+ghost use Rattle.std.specs.Prelude.{◌≡◌, ◌≢◌, ◌≤◌, ◌<◌, ◌+◌, ◌^◌, ◌↔◌, ℕ, IsTrue, All, AllPairs, length, unsigned_abs, count_by, not, ◌==◌, MatchOption};
+ghost use Rattle.sm_lp.specs.Conditions.{IsSolvable, IsBox, IsTerm, IsRow, HasColumn, LacksColumn};
+
+use crate::program::{LpRow, Program};
+
+/// Whether the ends are in order and within 2^31.
+fn is_box(ends: &(i64, i64)) -> bool
+    ensures { IsTrue result ↔ IsBox ends.now }
+{
+    ends.0 <= ends.1 && ends.0.unsigned_abs() <= 1 << 31 && ends.1.unsigned_abs() <= 1 << 31
+}
+
+/// Whether the term names one of the columns, with a number within 2^42.
+fn is_term(columns: usize, term: &(u32, i64)) -> bool
+    ensures { IsTrue result ↔ IsTerm columns term.now }
+{
+    (term.0 as usize) < columns && term.1.unsigned_abs() <= 1 << 42
+}
+
+/// The place, among the first so many terms, of one that names the column.
+fn place_of_column(terms: &[(u32, i64)], count: usize, column: u32) -> Option<usize>
+    requires { count ≤ length terms.now }
+    ensures { MatchOption result (LacksColumn terms.now count column) (λ k. HasColumn terms.now count column k) }
+{
+    for i in 0..count {
+        if terms[i].0 == column {
+            return Some(i);
+        }
+    }
+    None
+}
+
+/// Whether no column is named twice.
+fn are_different(terms: &[(u32, i64)]) -> bool
+    ensures { IsTrue result ↔ AllPairs (λ s t. s.0 ≢ t.0) terms.now }
+{
+    for j in 0..terms.len() {
+        if let Some(_) = place_of_column(terms, j, terms[j].0) {
+            return false;
+        }
+    }
+    true
+}
+
+fn is_row(columns: usize, row: &LpRow) -> bool
+    ensures { IsTrue result ↔ IsRow columns row.now }
+{
+    row.terms.iter().all(|term| is_term(columns, term))
+        && are_different(&row.terms)
+        && row.bound.unsigned_abs() <= 1 << 80
+}
+
+/// How many columns have a least end other than 0.
+fn shifted(columns: &[(i64, i64)]) -> usize
+    ensures { result ≡ count_by (λ box. not (unsigned_abs box.0 == 0)) columns.now }
+{
+    columns.iter().filter(|ends| ends.0 != 0).count()
+}
+
+fn are_boxes(columns: &[(i64, i64)]) -> bool
+    ensures { IsTrue result ↔ All IsBox columns.now }
+{
+    columns.iter().all(is_box)
+}
+
+fn are_rows(columns: usize, rows: &[LpRow]) -> bool
+    ensures { IsTrue result ↔ All (IsRow columns) rows.now }
+{
+    rows.iter().all(|row| is_row(columns, row))
+}
+
+fn are_small(costs: &[i64]) -> bool
+    ensures { IsTrue result ↔ All (λ c. unsigned_abs c ≤ 2 ^ 42) costs.now }
+{
+    costs.iter().all(|cost| cost.unsigned_abs() <= 1 << 42)
+}
+
+/// Whether `solve_lp` can solve the program.
+pub fn is_solvable(program: &Program) -> bool
+    ensures { IsTrue result ↔ IsSolvable program.now }
+{
+    program.cost.len() == program.columns.len()
+        && are_boxes(&program.columns)
+        && are_rows(program.columns.len(), &program.rows)
+        && are_small(&program.cost)
+        && shifted(&program.columns) < 1 << 20
+}

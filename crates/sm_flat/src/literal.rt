@@ -3,8 +3,9 @@ ghost use Rattle.std.specs.Prelude.{◌≡◌, ◌<◌, ◌^◌, unsigned_abs};
 ghost use Rattle.sm_flat.specs.Literals.{complement};
 
 /// How a literal compares its variable with its bound.
-#[derive(Clone, Copy, Debug, PartialEq, Eq)]
+#[derive(Clone, Copy, Debug, Default, PartialEq, Eq)]
 pub enum Test {
+    #[default]
     AtMost,
     AtLeast,
     Equal,
@@ -12,7 +13,7 @@ pub enum Test {
 }
 
 /// A test of a variable's value against a whole number.
-#[derive(Clone, Copy, Debug, PartialEq, Eq)]
+#[derive(Clone, Copy, Debug, Default, PartialEq, Eq)]
 pub struct Literal {
     /// The number of the variable.
     pub var: u32,

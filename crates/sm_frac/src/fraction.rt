@@ -27,6 +27,17 @@ pub(crate) fn make(n: i128, d: i128) -> Frac
     Frac { n, d }
 }
 
+impl Default for Frac {
+    ghost use Rattle.std.specs.Prelude.{◌≡◌, pos};
+
+    ghost is_default = { λ f. (f.n ≡ pos 0) × (f.d ≡ pos 1) };
+
+    /// Zero.
+    fn default() -> Frac {
+        Frac::whole(0)
+    }
+}
+
 impl Frac {
     /// The numerator, which has the sign of the number.
     pub fn n(&self) -> i128

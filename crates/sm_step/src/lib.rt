@@ -1,6 +1,7 @@
 //! The lines of a proof log: their types, and the one text of each.
 #![tactic(auto)]
 
+mod blank;
 mod cursor;
 mod fraction;
 mod line;

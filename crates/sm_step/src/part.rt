@@ -7,9 +7,10 @@ use crate::cursor::Cursor;
 use crate::refusal::LineRefusal;
 use sm_base::{OutOfMemory, push_whole};
 use std::alloc::Global;
+use std::default::MadeWith;
 
 /// A part of a line.
-pub(crate) trait Part: Sized + Drop {
+pub(crate) trait Part: Sized + Drop + MadeWith<Global> {
     /// Its text.
     ghost text: { Self → List ℕ };
 

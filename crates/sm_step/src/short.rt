@@ -1,13 +1,16 @@
 //! The lists inside lines.
 ghost use Rattle.std.specs.Prelude.{◌≡◌, [], ◌∷◌, ◌++◌, OnOk, OnErr, IfOk};
 
+use smallvec::SmallVec;
 use std::alloc::{AllocError, Global};
+use std::default::MadeWith;
 use std::marker::Model;
 
-/// A list inside a line. Contracts see it as the list of its items.
+/// A list inside a line: up to four items stay in the line itself, more are in an allocation. Contracts see it as the
+/// list of its items.
 #[derive(Drop)]
 pub struct Short<T> {
-    items: Vec<T>,
+    items: SmallVec<T, 4>,
 }
 
 impl<T> Model for Short<T> {
@@ -22,15 +25,6 @@ impl<T> Model for Short<T> {
 }
 
 impl<T> Short<T> {
-    /// The empty list.
-    pub fn new(alloc: Global) -> Short<T>
-        ensures { result ≡ [] }
-    {
-        Short {
-            items: Vec::new(alloc),
-        }
-    }
-
     /// The items, in order.
     pub fn as_slice(&self) -> &[T]
         ensures { result.now ≡ self.now }
@@ -39,7 +33,16 @@ impl<T> Short<T> {
     }
 }
 
-impl<T: Drop> Short<T> {
+impl<T: MadeWith<Global> + Drop> Short<T> {
+    /// The empty list.
+    pub fn new(alloc: Global) -> Short<T>
+        ensures { result ≡ [] }
+    {
+        Short {
+            items: SmallVec::new(alloc),
+        }
+    }
+
     /// Appends an item.
     pub fn push(&mut self, item: T) -> Result<(), AllocError>
         ensures ok { OnOk result (self.new ≡ self.old ++ item ∷ []) }
@@ -59,12 +62,12 @@ impl<T: Drop> Short<T> {
     }
 }
 
-impl<T: Copy> Short<T> {
+impl<T: MadeWith<Global> + Copy> Short<T> {
     /// A list of the items of a slice.
     pub fn from_slice(alloc: Global, items: &[T]) -> Result<Short<T>, AllocError>
         ensures { IfOk result (λ s. s ≡ items.now) }
     {
-        let items = Vec::from_slice(alloc, items)?;
+        let items = SmallVec::from_slice(alloc, items)?;
         Ok(Short { items })
     }
 }

@@ -8,9 +8,15 @@ use std::marker::Model;
 
 /// A list inside a line: up to four items stay in the line itself, more are in an allocation. Contracts see it as the
 /// list of its items.
-#[derive(Drop)]
 pub struct Short<T> {
     items: SmallVec<T, 4>,
+}
+
+/// Written by hand, so that a line that is dropped has one case for each of its lists, however long they are.
+impl<T: Drop> Drop for Short<T> {
+    fn drop(self) {
+        let Short { items: _ } = self;
+    }
 }
 
 impl<T> Model for Short<T> {

@@ -1,0 +1,14 @@
+pub mod Cuts
+pub mod Pieces
+pub mod Codes
+pub mod GrammarLaws
+pub mod GrammarTests
+pub mod OneToken
+pub mod ParsingLaws
+pub mod Readings
+pub mod NextTokens
+pub mod Predictions
+pub mod Choices
+pub mod Lists
+pub mod OneTree
+pub mod WholeTexts

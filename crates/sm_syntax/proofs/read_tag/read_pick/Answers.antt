@@ -1,0 +1,25 @@
+use Rattle.std.proofs.Common.{refl, ◌∷◌, []}
+use Rattle.std.proofs.lemmas.Result.{err_from_is_err_and}
+use Rattle.sm_syntax.specs.Grammar as g
+use Rattle.sm_syntax.proofs.Readings.{after, behind, fault_at, opened_rule}
+use Rattle.sm_syntax.proofs.read_tag.read_pick.Goals as goal
+
+pub returns-in_err-expect-clause-read : goal.returns-in_err-expect-clause-read
+returns-in_err-expect-clause-read c =
+    let l0 = opened_rule c.args.reader.now 23 (g.token_pick ∷ g.picking ∷ []) c.place-place.result refl c.place-place.ensures c.requires in
+    let p = err_from_is_err_and c.from_residual.result c.from_residual.ensures.1 in
+    rw (p.1, p.2) (fault_at c.expect.new.self c.in_err-expect.field-0.0 (g.token_pick ∷ []) (g.picking ∷ []) l0 c.in_err-expect.ensures.read)
+
+pub returns-in_err-picking-clause-read : goal.returns-in_err-picking-clause-read
+returns-in_err-picking-clause-read c =
+    let l0 = opened_rule c.args.reader.now 23 (g.token_pick ∷ g.picking ∷ []) c.place-place.result refl c.place-place.ensures c.requires in
+    let l1 = after l0 (behind (g.picking ∷ []) c.in_ok-expect.ensures.read) in
+    let p = err_from_is_err_and c.from_residual-in_err-picking.result c.from_residual-in_err-picking.ensures.1 in
+    rw (p.1, p.2) (fault_at c.read_picking.new.reader c.in_err-picking.field-0.0 (g.picking ∷ []) ([]) l1 c.in_err-picking.ensures)
+
+pub returns-clause-read : goal.returns-clause-read
+returns-clause-read c =
+    let l0 = opened_rule c.args.reader.now 23 (g.token_pick ∷ g.picking ∷ []) c.place-place.result refl c.place-place.ensures c.requires in
+    let l1 = after l0 (behind (g.picking ∷ []) c.in_ok-expect.ensures.read) in
+    let l2 = after l1 c.in_ok-picking.ensures in
+    l2

@@ -1,0 +1,15 @@
+pub mod Places
+pub mod Terminals
+pub mod Words
+pub mod Tokens
+pub mod Lexing
+pub mod Grammars
+pub mod Grammar
+pub mod Parsing
+pub mod Reading
+pub mod Expressions
+pub mod Formulas
+pub mod Trees
+pub mod Steps
+pub mod Symbols
+pub mod Models

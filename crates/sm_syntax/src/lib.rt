@@ -1,0 +1,95 @@
+//! The reader of the model language: a text to its tree, or its first bad token.
+#![tactic(auto)]
+
+ghost use Rattle.std.specs.Prelude.{◌≡◌, ℕ, Err, IfOk};
+ghost use Rattle.sm_syntax.specs.Models.{Bytes, IsModel, IsTreeOf, IsFirstBad, IsTooDeep, refusal_at};
+ghost use Rattle.sm_syntax.specs.Trees.{tree_of, Tree as PlainTree};
+
+mod expression;
+mod failure;
+mod formula;
+mod place;
+#[cfg(test)]
+mod printer;
+mod read_constraint;
+mod read_expression;
+mod read_formula;
+mod read_list;
+mod read_model;
+mod read_tag;
+mod reader;
+mod terminal;
+#[cfg(test)]
+mod tests;
+mod token;
+mod tree;
+mod words;
+
+use crate::failure::Failure;
+use crate::read_model::read_text;
+use crate::reader::Reader;
+pub use expression::{Addend, Binders, Expr, Factor, Term, Test};
+pub use formula::{Atom, Conclusion, Conj, Disj, Formula, Quantifier, Unit};
+pub use place::Place;
+use std::alloc::Global;
+use thiserror::Error;
+pub use tree::{
+    Aim, Bind, Choice, Choosing, Cmp, Cons, Ctask, Dtask, Goal, Item, Kind, Level, List, Lit,
+    LitRelation, Load, Name, Number, Picking, Relation, Relaxing, Sign, Splitting, Tag, Tree,
+    Values,
+};
+
+/// Why a text has no tree.
+#[derive(Clone, Copy, Debug, PartialEq, Eq, Error)]
+pub enum ParseRefusal {
+    /// The text is no model. No model begins with the part of the text up to this token, and some model begins
+    /// with the part before it.
+    #[error("syntax error at line {line}, column {column}")]
+    Syntax { line: u32, column: u32 },
+    /// A bracket is opened inside as many as may be open, where some model goes on so. It makes so many.
+    #[error("{found} brackets are open inside one another")]
+    Nesting { found: u32 },
+    #[error("memory ran out")]
+    OutOfMemory,
+}
+
+/// The tree of a text.
+///
+/// # Errors
+///
+/// [`ParseRefusal`] says when each comes.
+pub fn parse(alloc: Global, text: &[u8]) -> Result<Tree, ParseRefusal>
+    // The tree is the one that the grammar gives the text (`one_tree`).
+    ensures found { IfOk result (λ t. IsTreeOf text.now (tree_of t)) }
+    // So a text that has a tree is a model, and no bracket in it is too deep.
+    ensures model { IfOk result (λ _. IsModel text.now) }
+    ensures shallow { IfOk result (λ _. IsTooDeep text.now → ⊥) }
+    ensures nesting { (n : ℕ) → result ≡ Err (ParseRefusal.Nesting n) → (n ≡ 65) × IsTooDeep text.now }
+    ensures syntax { (l c : ℕ) → result ≡ Err (ParseRefusal.Syntax l c) → IsFirstBad text.now (record { line = l; column = c }) }
+    ensures below { (l c : ℕ) → result ≡ Err (ParseRefusal.Syntax l c) → IsTooDeep text.now → ⊥ }
+{
+    let mut reader = Reader::new(text);
+    match read_text(alloc, &mut reader) {
+        Ok(tree) => Ok(tree),
+        Err(failure) => Err(refusal(failure, reader.place())),
+    }
+}
+
+/// Why there is no tree, where the reader stopped at a place.
+fn refusal(failure: Failure, place: Place) -> ParseRefusal
+    ensures { result ≡ refusal_at failure place }
+{
+    match failure {
+        Failure::Syntax => ParseRefusal::Syntax {
+            line: place.line,
+            column: place.column,
+        },
+        Failure::Nesting => ParseRefusal::Nesting { found: 65 },
+        Failure::OutOfMemory => ParseRefusal::OutOfMemory,
+    }
+}
+
+/// A law: no text has two trees.
+pub fn one_tree()
+    ensures { (text : Bytes) (a b : PlainTree) → IsTreeOf text a → IsTreeOf text b → a ≡ b }
+{}

@@ -1,0 +1,282 @@
+//! Reading expressions.
+ghost use Rattle.std.specs.Prelude.{◌≡◌, ◌<◌, ◌∷◌, [], None, Some, IfSome, IfNone, IfOk, OnOk, length, map};
+ghost use Rattle.sm_syntax.specs.Grammars.{leaf, predict};
+ghost use Rattle.sm_syntax.specs.Grammar as g;
+ghost use Rattle.sm_syntax.specs.Reading.{State, next, Leads, Reads, Chooses};
+ghost use Rattle.sm_syntax.specs.Expressions.{expression_of, binding_of, factor_of, term_of, test_of, operands_of, expressions_of, comparisons_of};
+ghost use Rattle.sm_syntax.specs.Steps.{sign_then, minus_then, relation_then, bind_then, list_then, expression_then, product_then, operand_then, operands_then, indices_then, binding_then, tests_then, comparison_then};
+ghost use Rattle.sm_syntax.specs.Symbols.{sign_of, relation_of, begins_sign};
+
+use crate::expression::{Addend, Binders, Expr, Factor, Term, Test};
+use crate::failure::Failure;
+use crate::reader::Reader;
+use crate::terminal::Terminal;
+use crate::tree::{Bind, Relation, Sign};
+use sqlite_items::{Boxed, Items};
+use std::alloc::Global;
+
+/// The sign that a token is.
+fn sign_of(terminal: Terminal) -> Option<Sign>
+    ensures { result ≡ sign_of terminal }
+{
+    match terminal {
+        Terminal::Plus => Some(Sign::Plus),
+        Terminal::Minus => Some(Sign::Minus),
+        _ => None,
+    }
+}
+
+/// Reads the sign before a further term.
+fn read_sign(reader: &mut Reader<'_>) -> Result<Sign, Failure>
+    ensures read { Reads reader.old (g.sign ∷ []) sign_then reader.new result }
+    ensures shorter { OnOk result (length reader.new.later < length reader.old.later) }
+{
+    let terminal = reader.terminal();
+    let Some(sign) = sign_of(terminal) else {
+        return Err(Failure::Syntax);
+    };
+    reader.take(terminal);
+    Ok(sign)
+}
+
+/// Whether a further term begins with the token.
+fn begins_sign(terminal: Terminal) -> bool
+    ensures { result ≡ begins_sign terminal }
+{
+    match terminal {
+        Terminal::Plus | Terminal::Minus => true,
+        _ => false,
+    }
+}
+
+/// Reads the minus that may stand before the first term.
+fn read_minus(reader: &mut Reader<'_>) -> bool
+    ensures { Leads reader.old (g.minus ∷ []) (minus_then result) reader.new [] }
+{
+    reader.accept(Terminal::Minus)
+}
+
+/// The relation that a token is.
+fn relation_of(terminal: Terminal) -> Option<Relation>
+    ensures { result ≡ relation_of terminal }
+{
+    match terminal {
+        Terminal::Less => Some(Relation::Less),
+        Terminal::AtMost => Some(Relation::AtMost),
+        Terminal::Greater => Some(Relation::Greater),
+        Terminal::AtLeast => Some(Relation::AtLeast),
+        Terminal::Equal => Some(Relation::Equal),
+        Terminal::Unequal => Some(Relation::Unequal),
+        _ => None,
+    }
+}
+
+/// Reads the relation of a test.
+fn read_relation(reader: &mut Reader<'_>) -> Result<Relation, Failure>
+    ensures { Reads reader.old (g.relation ∷ []) relation_then reader.new result }
+{
+    let terminal = reader.terminal();
+    let Some(relation) = relation_of(terminal) else {
+        return Err(Failure::Syntax);
+    };
+    reader.take(terminal);
+    Ok(relation)
+}
+
+/// Reads a bind.
+fn read_bind(alloc: Global, reader: &mut Reader<'_>) -> Result<Bind, Failure>
+    ensures { Reads reader.old (g.bind ∷ []) bind_then reader.new result }
+{
+    let place = reader.place();
+    let name = reader.name(alloc)?;
+    reader.expect(Terminal::In)?;
+    let set = reader.name(alloc)?;
+    Ok(Bind { place, name, set })
+}
+
+/// Reads the further binds.
+fn read_more_binds(alloc: Global, reader: &mut Reader<'_>) -> Result<Items<Bind>, Failure>
+    ensures { Reads reader.old (g.more_binds ∷ []) (list_then g.more_binds (g.token_comma ∷ g.bind ∷ g.more_binds ∷ []) bind_then) reader.new result }
+{
+    let mut binds = Items::new(alloc);
+    'binds: while reader.accept(Terminal::Comma) {
+        let bind = read_bind(alloc, reader)?;
+        binds.push(bind)?;
+    }
+    Ok(binds)
+}
+
+/// Reads an expression.
+#[cycle(expression)]
+pub fn read_expr(alloc: Global, reader: &mut Reader<'_>) -> Result<Expr, Failure>
+    ensures { Reads reader.old (g.expr ∷ []) (λ x. expression_then (expression_of x)) reader.new result }
+{
+    let place = reader.place();
+    let is_negated = read_minus(reader);
+    let first = read_term(alloc, reader)?;
+    let mut more = Items::new(alloc);
+    'terms: while begins_sign(reader.terminal()) {
+        let sign = read_sign(reader)?;
+        let term = read_term(alloc, reader)?;
+        let addend = Addend::new(sign, term);
+        more.push(addend)?;
+    }
+    Ok(Expr::new(place, is_negated, first, more))
+}
+
+/// Reads a term.
+#[cycle(expression)]
+fn read_term(alloc: Global, reader: &mut Reader<'_>) -> Result<Term, Failure>
+    ensures { Reads reader.old (g.term ∷ []) (λ x. product_then (term_of x)) reader.new result }
+{
+    let place = reader.place();
+    let first = read_factor(alloc, reader)?;
+    let more = read_more_factors(alloc, reader)?;
+    Ok(Term::new(place, first, more))
+}
+
+/// Reads the further factors of a term.
+#[cycle(expression)]
+fn read_more_factors(alloc: Global, reader: &mut Reader<'_>) -> Result<Items<Factor>, Failure>
+    ensures { Reads reader.old (g.more_factors ∷ []) (λ xs. operands_then (operands_of (map factor_of xs))) reader.new result }
+{
+    let mut factors = Items::new(alloc);
+    'factors: while reader.accept(Terminal::Times) {
+        let factor = read_factor(alloc, reader)?;
+        factors.push(factor)?;
+    }
+    Ok(factors)
+}
+
+/// Reads a factor.
+#[cycle(expression)]
+fn read_factor(alloc: Global, reader: &mut Reader<'_>) -> Result<Factor, Failure>
+    ensures { Reads reader.old (g.factor ∷ []) (λ x. operand_then (factor_of x)) reader.new result }
+{
+    match reader.terminal() {
+        Terminal::Name => read_named(alloc, reader),
+        Terminal::OpenRound => read_group(alloc, reader),
+        Terminal::Sum => read_sum(alloc, reader),
+        _ => read_numeral(reader),
+    }
+}
+
+/// Reads a number as a factor.
+fn read_numeral(reader: &mut Reader<'_>) -> Result<Factor, Failure>
+    requires { Chooses reader.old g.factor (g.token_number ∷ []) }
+    ensures { Reads reader.old (g.factor ∷ []) (λ x. operand_then (factor_of x)) reader.new result }
+{
+    let place = reader.place();
+    let number = reader.number()?;
+    Ok(Factor::from_number(place, number))
+}
+
+/// Reads a name and its indices.
+#[cycle(expression)]
+fn read_named(alloc: Global, reader: &mut Reader<'_>) -> Result<Factor, Failure>
+    requires { Chooses reader.old g.factor (g.token_name ∷ g.indices ∷ []) }
+    ensures { Reads reader.old (g.factor ∷ []) (λ x. operand_then (factor_of x)) reader.new result }
+{
+    let place = reader.place();
+    let name = reader.name(alloc)?;
+    let indices = read_indices(alloc, reader)?;
+    Ok(Factor::from_name(place, name, indices))
+}
+
+/// Reads the indices that may stand behind a name.
+#[cycle(expression)]
+fn read_indices(alloc: Global, reader: &mut Reader<'_>) -> Result<Items<Expr>, Failure>
+    ensures { Reads reader.old (g.indices ∷ []) (λ xs. indices_then (expressions_of (map expression_of xs))) reader.new result }
+{
+    if !reader.is(Terminal::OpenSquare) {
+        return Ok(Items::new(alloc));
+    }
+    reader.open(Terminal::OpenSquare)?;
+    let first = read_expr(alloc, reader)?;
+    let mut more = Items::new(alloc);
+    'indices: while reader.accept(Terminal::Comma) {
+        let index = read_expr(alloc, reader)?;
+        more.push(index)?;
+    }
+    reader.close(Terminal::CloseSquare)?;
+    let mut indices = Items::new(alloc);
+    indices.push(first)?;
+    indices.append(more)?;
+    Ok(indices)
+}
+
+/// Reads an expression in brackets.
+#[cycle(expression)]
+fn read_group(alloc: Global, reader: &mut Reader<'_>) -> Result<Factor, Failure>
+    requires { Chooses reader.old g.factor (g.token_open_round ∷ g.expr ∷ g.token_close_round ∷ []) }
+    ensures { Reads reader.old (g.factor ∷ []) (λ x. operand_then (factor_of x)) reader.new result }
+{
+    let place = reader.place();
+    reader.open(Terminal::OpenRound)?;
+    let inner = read_expr(alloc, reader)?;
+    reader.close(Terminal::CloseRound)?;
+    let inner = Boxed::new(alloc, inner)?;
+    Ok(Factor::from_group(place, inner))
+}
+
+/// Reads a sum over tuples.
+#[cycle(expression)]
+fn read_sum(alloc: Global, reader: &mut Reader<'_>) -> Result<Factor, Failure>
+    requires { Chooses reader.old g.factor (g.token_sum ∷ g.token_open_round ∷ g.expr ∷ g.token_for ∷ g.binders ∷ g.token_close_round ∷ []) }
+    ensures { Reads reader.old (g.factor ∷ []) (λ x. operand_then (factor_of x)) reader.new result }
+{
+    let place = reader.place();
+    reader.expect(Terminal::Sum)?;
+    reader.open(Terminal::OpenRound)?;
+    let summand = read_expr(alloc, reader)?;
+    reader.expect(Terminal::For)?;
+    let binders = read_binders(alloc, reader)?;
+    reader.close(Terminal::CloseRound)?;
+    let summand = Boxed::new(alloc, summand)?;
+    let binders = Boxed::new(alloc, binders)?;
+    Ok(Factor::from_sum(place, summand, binders))
+}
+
+/// Reads binders.
+#[cycle(expression)]
+pub fn read_binders(alloc: Global, reader: &mut Reader<'_>) -> Result<Binders, Failure>
+    ensures { Reads reader.old (g.binders ∷ []) (λ b. binding_then (binding_of b)) reader.new result }
+{
+    let place = reader.place();
+    let first = read_bind(alloc, reader)?;
+    let more = read_more_binds(alloc, reader)?;
+    let tests = read_tests(alloc, reader)?;
+    Ok(Binders::new(place, first, more, tests))
+}
+
+/// Reads the tests that binders may have.
+#[cycle(expression)]
+fn read_tests(alloc: Global, reader: &mut Reader<'_>) -> Result<Items<Test>, Failure>
+    ensures { Reads reader.old (g.tests ∷ []) (λ ts. tests_then (comparisons_of (map test_of ts))) reader.new result }
+{
+    if !reader.accept(Terminal::If) {
+        return Ok(Items::new(alloc));
+    }
+    let first = read_test(alloc, reader)?;
+    let mut more = Items::new(alloc);
+    'tests: while reader.accept(Terminal::And) {
+        let test = read_test(alloc, reader)?;
+        more.push(test)?;
+    }
+    let mut tests = Items::new(alloc);
+    tests.push(first)?;
+    tests.append(more)?;
+    Ok(tests)
+}
+
+/// Reads a test.
+#[cycle(expression)]
+fn read_test(alloc: Global, reader: &mut Reader<'_>) -> Result<Test, Failure>
+    ensures { Reads reader.old (g.test ∷ []) (λ t. comparison_then (test_of t)) reader.new result }
+{
+    let place = reader.place();
+    let left = read_expr(alloc, reader)?;
+    let relation = read_relation(reader)?;
+    let right = read_expr(alloc, reader)?;
+    Ok(Test::new(place, left, relation, right))
+}

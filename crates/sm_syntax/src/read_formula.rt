@@ -1,0 +1,238 @@
+//! Reading literals and formulas.
+ghost use Rattle.std.specs.Prelude.{◌≡◌, ◌∷◌, [], false, IfOk};
+ghost use Rattle.sm_syntax.specs.Grammar as g;
+ghost use Rattle.sm_syntax.specs.Reading.{State, Leads, Reads, ReadsTo, Chooses, each, is_next};
+ghost use Rattle.sm_syntax.specs.Expressions.{literal_of, binding_of};
+ghost use Rattle.sm_syntax.specs.Formulas.{formula_of, conclusion_of, disj_of, conj_of, unit_of, atom_of};
+ghost use Rattle.sm_syntax.specs.Steps.{lit_relation_then, quantifier_then, literal_then, binding_then, negation_then, statement_then, ending_then, disjunction_then, conjunction_then, claim_then};
+ghost use Rattle.sm_syntax.specs.Symbols.{lit_relation_of, quantifier_of};
+
+use crate::expression::Binders;
+use crate::failure::Failure;
+use crate::formula::{Atom, Conclusion, Conj, Disj, Formula, Quantifier, Unit};
+use crate::place::Place;
+use crate::read_expression::{read_binders, read_expr};
+use crate::reader::Reader;
+use crate::terminal::Terminal;
+use crate::tree::{Lit, LitRelation};
+use sqlite_items::{Boxed, Items};
+use std::alloc::Global;
+
+/// The relation of a literal that a token is.
+fn lit_relation_of(terminal: Terminal) -> Option<LitRelation>
+    ensures { result ≡ lit_relation_of terminal }
+{
+    match terminal {
+        Terminal::AtMost => Some(LitRelation::AtMost),
+        Terminal::AtLeast => Some(LitRelation::AtLeast),
+        Terminal::Equal => Some(LitRelation::Equal),
+        Terminal::Unequal => Some(LitRelation::Unequal),
+        _ => None,
+    }
+}
+
+/// Reads the relation of a literal.
+fn read_lit_relation(reader: &mut Reader<'_>) -> Result<LitRelation, Failure>
+    ensures { Reads reader.old (g.lit_relation ∷ []) lit_relation_then reader.new result }
+{
+    let terminal = reader.terminal();
+    let Some(relation) = lit_relation_of(terminal) else {
+        return Err(Failure::Syntax);
+    };
+    reader.take(terminal);
+    Ok(relation)
+}
+
+/// The quantifier that a token is.
+fn quantifier_of(terminal: Terminal) -> Option<Quantifier>
+    ensures { result ≡ quantifier_of terminal }
+{
+    match terminal {
+        Terminal::All => Some(Quantifier::All),
+        Terminal::Any => Some(Quantifier::Any),
+        _ => None,
+    }
+}
+
+/// Reads a quantifier.
+fn read_quantifier(reader: &mut Reader<'_>) -> Result<Quantifier, Failure>
+    ensures { Reads reader.old (g.quantifier ∷ []) quantifier_then reader.new result }
+{
+    let terminal = reader.terminal();
+    let Some(quantifier) = quantifier_of(terminal) else {
+        return Err(Failure::Syntax);
+    };
+    reader.take(terminal);
+    Ok(quantifier)
+}
+
+/// Reads a literal.
+pub fn read_lit(alloc: Global, reader: &mut Reader<'_>) -> Result<Lit, Failure>
+    ensures { Reads reader.old (g.lit ∷ []) (λ l. literal_then (literal_of l)) reader.new result }
+{
+    let place = reader.place();
+    reader.open(Terminal::OpenSquare)?;
+    let left = read_expr(alloc, reader)?;
+    let relation = read_lit_relation(reader)?;
+    let right = read_expr(alloc, reader)?;
+    reader.close(Terminal::CloseSquare)?;
+    Ok(Lit {
+        place,
+        left,
+        relation,
+        right,
+    })
+}
+
+/// Reads the negations before a unit.
+fn read_negations(alloc: Global, reader: &mut Reader<'_>) -> Result<Items<Place>, Failure>
+    ensures read { ReadsTo reader.old (g.unit ∷ []) (each negation_then) reader.new (g.unit ∷ []) result }
+    ensures none { IfOk result (λ ns. is_next Terminal.Not reader.new ≡ false) }
+{
+    let mut negations = Items::new(alloc);
+    'negations: while reader.is(Terminal::Not) {
+        let place = reader.place();
+        reader.take(Terminal::Not);
+        negations.push(place)?;
+    }
+    Ok(negations)
+}
+
+/// Reads a formula.
+#[cycle(formula)]
+pub fn read_formula(alloc: Global, reader: &mut Reader<'_>) -> Result<Formula, Failure>
+    ensures { Reads reader.old (g.formula ∷ []) (λ f. statement_then (formula_of f)) reader.new result }
+{
+    let place = reader.place();
+    let left = read_disj(alloc, reader)?;
+    let conclusion = read_conclusion(alloc, reader)?;
+    Ok(Formula::new(place, left, conclusion))
+}
+
+/// Reads what may stand behind the first disjunction of a formula.
+#[cycle(formula)]
+fn read_conclusion(alloc: Global, reader: &mut Reader<'_>) -> Result<Conclusion, Failure>
+    ensures { Reads reader.old (g.conclusion ∷ []) (λ e. ending_then (conclusion_of e)) reader.new result }
+{
+    if reader.accept(Terminal::Implies) {
+        let disj = read_disj(alloc, reader)?;
+        return Ok(Conclusion::implied(disj));
+    }
+    if reader.accept(Terminal::Iff) {
+        let disj = read_disj(alloc, reader)?;
+        return Ok(Conclusion::equivalent(disj));
+    }
+    Ok(Conclusion::empty())
+}
+
+/// Reads a disjunction.
+#[cycle(formula)]
+fn read_disj(alloc: Global, reader: &mut Reader<'_>) -> Result<Disj, Failure>
+    ensures { Reads reader.old (g.disj ∷ []) (λ d. disjunction_then (disj_of d)) reader.new result }
+{
+    let place = reader.place();
+    let first = read_conj(alloc, reader)?;
+    let mut more = Items::new(alloc);
+    'conjs: while reader.accept(Terminal::Or) {
+        let conj = read_conj(alloc, reader)?;
+        more.push(conj)?;
+    }
+    Ok(Disj::new(place, first, more))
+}
+
+/// Reads a conjunction.
+#[cycle(formula)]
+fn read_conj(alloc: Global, reader: &mut Reader<'_>) -> Result<Conj, Failure>
+    ensures { Reads reader.old (g.conj ∷ []) (λ x. conjunction_then (conj_of x)) reader.new result }
+{
+    let place = reader.place();
+    let first = read_unit(alloc, reader)?;
+    let mut more = Items::new(alloc);
+    'units: while reader.accept(Terminal::And) {
+        let unit = read_unit(alloc, reader)?;
+        more.push(unit)?;
+    }
+    Ok(Conj::new(place, first, more))
+}
+
+/// Reads a unit.
+#[cycle(formula)]
+fn read_unit(alloc: Global, reader: &mut Reader<'_>) -> Result<Unit, Failure>
+    ensures { Reads reader.old (g.unit ∷ []) (λ u. claim_then (unit_of u)) reader.new result }
+{
+    let negations = read_negations(alloc, reader)?;
+    let inner = read_atom(alloc, reader)?;
+    Ok(Unit::new(negations, inner))
+}
+
+/// Reads a unit that isn't a negation.
+#[cycle(formula)]
+fn read_atom(alloc: Global, reader: &mut Reader<'_>) -> Result<Atom, Failure>
+    requires { is_next Terminal.Not reader.old ≡ false }
+    ensures { Reads reader.old (g.unit ∷ []) (λ a. claim_then (atom_of a)) reader.new result }
+{
+    match reader.terminal() {
+        Terminal::OpenRound => read_formula_group(alloc, reader),
+        Terminal::All => read_quantified(alloc, reader),
+        Terminal::Any => read_quantified(alloc, reader),
+        _ => read_lit_atom(alloc, reader),
+    }
+}
+
+/// Reads a literal as a unit.
+fn read_lit_atom(alloc: Global, reader: &mut Reader<'_>) -> Result<Atom, Failure>
+    requires { Chooses reader.old g.unit (g.lit ∷ []) }
+    ensures { Reads reader.old (g.unit ∷ []) (λ a. claim_then (atom_of a)) reader.new result }
+{
+    let place = reader.place();
+    let lit = read_lit(alloc, reader)?;
+    Ok(Atom::from_lit(place, lit))
+}
+
+/// Reads a formula in brackets.
+#[cycle(formula)]
+fn read_formula_group(alloc: Global, reader: &mut Reader<'_>) -> Result<Atom, Failure>
+    requires { Chooses reader.old g.unit (g.token_open_round ∷ g.formula ∷ g.token_close_round ∷ []) }
+    ensures { Reads reader.old (g.unit ∷ []) (λ a. claim_then (atom_of a)) reader.new result }
+{
+    let place = reader.place();
+    reader.open(Terminal::OpenRound)?;
+    let inner = read_formula(alloc, reader)?;
+    reader.close(Terminal::CloseRound)?;
+    let inner = Boxed::new(alloc, inner)?;
+    Ok(Atom::from_group(place, inner))
+}
+
+/// Reads a formula of all tuples, or of any.
+#[cycle(formula)]
+fn read_quantified(alloc: Global, reader: &mut Reader<'_>) -> Result<Atom, Failure>
+    requires { Chooses reader.old g.unit (g.quantifier ∷ g.token_open_round ∷ g.formula ∷ g.token_for ∷ g.binders ∷ g.token_close_round ∷ []) }
+    ensures { Reads reader.old (g.unit ∷ []) (λ a. claim_then (atom_of a)) reader.new result }
+{
+    let place = reader.place();
+    let quantifier = read_quantifier(reader)?;
+    let inner = read_inner(alloc, reader)?;
+    let binders = read_scope(alloc, reader)?;
+    Ok(Atom::from_quantified(place, quantifier, inner, binders))
+}
+
+/// Reads the formula behind a quantifier, with the bracket before it.
+#[cycle(formula)]
+fn read_inner(alloc: Global, reader: &mut Reader<'_>) -> Result<Boxed<Formula>, Failure>
+    ensures { Reads reader.old (g.token_open_round ∷ g.formula ∷ []) (λ f. statement_then (formula_of f)) reader.new result }
+{
+    reader.open(Terminal::OpenRound)?;
+    let inner = read_formula(alloc, reader)?;
+    let inner = Boxed::new(alloc, inner)?;
+    Ok(inner)
+}
+
+/// Reads the binders of a quantifier, with the bracket behind them.
+fn read_scope(alloc: Global, reader: &mut Reader<'_>) -> Result<Binders, Failure>
+    ensures { Reads reader.old (g.token_for ∷ g.binders ∷ g.token_close_round ∷ []) (λ b. binding_then (binding_of b)) reader.new result }
+{
+    reader.expect(Terminal::For)?;
+    let binders = read_binders(alloc, reader)?;
+    reader.close(Terminal::CloseRound)?;
+    Ok(binders)
+}

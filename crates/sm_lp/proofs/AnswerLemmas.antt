@@ -1,6 +1,6 @@
 -- The answers at the end of the path.
 use Rattle.std.proofs.Common.{◌≡◌, ℕ, ℤ, pos, suc, ◌<◌, ◌≤◌, ◌*◌, ◌^◌, ◌*ℤ◌, List, length, get_or, sym, ap, ◌∙◌, refl, arith, subst, inr, unsigned_abs}
-use Rattle.std.specs.Prelude.{◌≤ℤ◌, nat_lt, Some, None}
+use Rattle.std.specs.Prelude.{◌≤ℤ◌, ◌<ℤ◌, nat_lt, Some, None}
 use Rattle.std.proofs.lemmas.Int.{ints, unsigned_abs-mul}
 use Rattle.std.proofs.lemmas.List.{get_or-map}
 use Rattle.std.proofs.Math.Logic.{⊎_elim}
@@ -20,11 +20,11 @@ use Rattle.sm_lp.specs.Conditions.{IsSolvable}
 use Rattle.sm_lp.specs.Dictionary.{Dictionary, pivot, IsProper}
 use Rattle.sm_lp.specs.Moves.{IsMove, IsOptimal, IsInfeasible}
 use Rattle.sm_lp.specs.Rule.{place}
-use Rattle.sm_lp.specs.Program.{column_count, low, high, cost, row_coefficient, row_bound, row_value, SatisfiesRow, Satisfies, cost_of, AreMultipliers, bound_of}
+use Rattle.sm_lp.specs.Program.{column_count, low, high, cost, row_coefficient, row_bound, row_value, SatisfiesRow, Satisfies, cost_of, AreMultipliers, bound_of, point_value}
 use Rattle.sm_lp.specs.First.{slack_count, number_count}
 use Rattle.sm_lp.specs.Steps.{column_value, IsDenominator, IsLeastCommon, JoinsBy, IsPassingStep, IsPivotStep, IsEndStep, Stands}
 use Rattle.sm_lp.specs.Path.{successor, IsOnPath, numbers_below, basis_of}
-use Rattle.sm_lp.specs.Answer.{goal_coefficient, turned_coefficient, multipliers_of, row_multipliers, point_value, IsOptimum, IsContradiction}
+use Rattle.sm_lp.specs.Answer.{goal_coefficient, turned_coefficient, multipliers_of, row_multipliers, IsOptimum, IsContradiction}
 use Rattle.sm_lp.specs.Ending.{AreValues, IsValuePassed, IsCommon, IsCommonPassed, AreBoxed, denominator_at, slack_of}
 use Rattle.sm_lp.proofs.Totals.{total_same}
 use Rattle.sm_lp.proofs.CommonLemmas.{common_same}
@@ -104,14 +104,20 @@ optimum p d values denominator point ms s t o v c long exact em =
     let x = point_value point denominator in
     let costs : cost_of p (column_value p d) ≡ cost_of p x = cost_moved p (column_value p d) x (λ j l. sym (is_value j l)) in
     record {
-      long = long ∙ v.long;
-      satisfies = satisfies_moved p (column_value p d) x (λ j l. sym (is_value j l)) (feasible p d t o);
-      multipliers_lawful = subst (λ (ys : List ℚ). AreMultipliers p.rows.items ys) (sym em) (goal_lawful p d t o);
-      bound = sym costs ∙ bound_is_cost p d t o order ∙ ap (bound_of p (cost p)) (sym em);
+      pair = record {
+        above = above;
+        long = long ∙ v.long;
+        satisfies = satisfies_moved p (column_value p d) x (λ j l. sym (is_value j l)) (feasible p d t o);
+        multipliers_lawful = subst (λ (ys : List ℚ). AreMultipliers p.rows.items ys) (sym em) (goal_lawful p d t o);
+        bound = sym costs ∙ bound_is_cost p d t o order ∙ ap (bound_of p (cost p)) (sym em);
+      };
       least = λ z sz. subst (λ (q : ℚ). q ≤ℚ cost_of p z) costs (none_costs_less p d t o order z sz);
       common = (denominator_at values, λ j l. denominator_is values j (x j) (at_value j l) (sym (exact j (at_value j l))), subst (λ (k : ℕ). IsLeastCommon k (denominator_at values) (unsigned_abs denominator)) v.long c.common);
     }
   where
+    above : pos 0 <ℤ denominator
+    above = let low = c.least in omega (arith, ints)
+
     at_value : (j : ℕ) → j < column_count p → j < length values
     at_value j l = let n = v.long in omega arith
 
@@ -122,8 +128,10 @@ pub contradiction : (p : Program) (d : Dictionary) (r : ℕ) (ms : List ℚ) →
 contradiction p d r ms s t o em =
     let order = ends_ordered p s in
     record {
-      multipliers_lawful = subst (λ (ys : List ℚ). AreMultipliers p.rows.items ys) (sym em) (turned_lawful p d t r o);
-      positive = subst (λ (ys : List ℚ). zero_ℚ <ℚ bound_of p (λ _. zero_ℚ) ys) (sym em) (bound_positive p d t r o order);
+      shows = record {
+        multipliers_lawful = subst (λ (ys : List ℚ). AreMultipliers p.rows.items ys) (sym em) (turned_lawful p d t r o);
+        positive = subst (λ (ys : List ℚ). zero_ℚ <ℚ bound_of p (λ _. zero_ℚ) ys) (sym em) (bound_positive p d t r o order);
+      };
       none = none_satisfies p d t r o order;
     }
 

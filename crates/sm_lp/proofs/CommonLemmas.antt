@@ -19,7 +19,7 @@ use Rattle.sm_frac.proofs.IntRing.{products}
 use Rattle.std.proofs.Math.Seq.{get_or-append_seam}
 use Rattle.std.proofs.Math.ListN.{get_or-append}
 use Rattle.sm_lp.specs.Numbers.{number_at}
-use Rattle.sm_lp.specs.Answer.{point_value}
+use Rattle.sm_lp.specs.Program.{point_value}
 use Rattle.sm_lp.proofs.NumberLemmas.{number_read}
 use Rattle.sm_lp.specs.Steps.{JoinsBy, IsLeastCommon}
 use Rattle.sm_lp.specs.Table.{IsFine}

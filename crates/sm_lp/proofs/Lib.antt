@@ -28,3 +28,7 @@ pub mod PathLemmas
 pub mod SolveLemmas
 pub mod AnswerLemmas
 pub mod LawLemmas
+pub mod CertificateLemmas
+pub mod PointLemmas
+pub mod CombinationLemmas
+pub mod CheckLemmas

@@ -1,6 +1,6 @@
 -- What the answers say.
-use Rattle.std.specs.Prelude.{◌≡◌, ℕ, ℤ, pos, ◌<◌, ◌+◌, length, map, List, [], ◌∷◌, if◌then◌else◌, slice_index_or, unsigned_abs, ◌==◌, ◌<ℤ◌}
-use Rattle.sm_frac.specs.Rational.{ℚ, ◌-ℚ◌, ◌≤ℚ◌, ◌<ℚ◌, neg_ℚ, zero_ℚ, one_ℚ, fraction}
+use Rattle.std.specs.Prelude.{◌≡◌, ℕ, ℤ, ◌<◌, ◌+◌, map, List, [], ◌∷◌, if◌then◌else◌, unsigned_abs, ◌==◌}
+use Rattle.sm_frac.specs.Rational.{ℚ, ◌-ℚ◌, ◌≤ℚ◌, neg_ℚ, zero_ℚ, one_ℚ}
 use Rattle.sm_frac.specs.Frac.{value_of}
 use Rattle.sm_lp.specs.declared.program.Program.{Program}
 use Rattle.sm_lp.specs.declared.program.LpRow.{LpRow}
@@ -8,7 +8,8 @@ use Rattle.sm_lp.specs.declared.program.LpAnswer.{LpAnswer}
 use Rattle.sm_lp.specs.declared.program.LpAnswer.TheVariants.{Optimal, Infeasible, Passed}
 use Rattle.sm_lp.specs.Dictionary.{Dictionary, value_at}
 use Rattle.sm_lp.specs.Moves.{IsOptimal, IsInfeasible}
-use Rattle.sm_lp.specs.Program.{column_count, cost, cost_of, bound_of, Satisfies, AreMultipliers}
+use Rattle.sm_lp.specs.Program.{column_count, cost_of, Satisfies, point_value}
+use Rattle.sm_lp.specs.Certificate.{IsOptimalPair, ShowsNoPoint}
 use Rattle.sm_lp.specs.First.{slack_count}
 use Rattle.sm_lp.specs.Steps.{IsPassingStep, Stands, column_value, IsDenominator, IsLeastCommon}
 use Rattle.sm_lp.specs.Path.{IsOnPath, basis_of}
@@ -29,10 +30,6 @@ row_multipliers (row ∷ rows) slack k = if row.equal then (slack k -ℚ slack (
 abbrev pub multipliers_of : Program → (ℕ → ℚ) → List ℚ
 multipliers_of p slack = row_multipliers p.rows.items slack (column_count p)
 
--- the columns' values at the point, each over the denominator
-abbrev pub point_value : List ℤ → ℤ → ℕ → ℚ
-point_value point denominator j = fraction (slice_index_or point j (pos 0)) (unsigned_abs denominator)
-
 -- The last dictionary of the path that the answer is of.
 abbrev pub EndsPath : Program → LpAnswer → Type 0
 EndsPath p (Optimal basis denominator point multipliers) =
@@ -45,24 +42,20 @@ EndsPath p (Infeasible basis multipliers) =
 EndsPath p (Passed basis passed) =
     (d : Dictionary) × IsOnPath p d × IsPassingStep p d passed.op passed.left passed.right × (basis.items ≡ basis_of p d)
 
--- The point satisfies the program, no point costs less, and the multipliers show it. The denominator is the least that the columns have in common.
+-- The point satisfies the program, and the multipliers show that no point costs less. The denominator is the least that the columns have in common.
 pub record IsOptimum (p : Program) (denominator : ℤ) (point : List ℤ) (multipliers : List ℚ) : Type 0 where
-  pub long : length point ≡ column_count p
-  pub satisfies : Satisfies p (point_value point denominator)
-  pub multipliers_lawful : AreMultipliers p.rows.items multipliers
-  pub bound : cost_of p (point_value point denominator) ≡ bound_of p (cost p) multipliers
+  pub pair : IsOptimalPair p denominator point multipliers
   pub least : (x : ℕ → ℚ) → Satisfies p x → cost_of p (point_value point denominator) ≤ℚ cost_of p x
   pub common : (denominators : ℕ → ℕ) × ((j : ℕ) → j < column_count p → IsDenominator (point_value point denominator j) (denominators j)) × IsLeastCommon (column_count p) denominators (unsigned_abs denominator)
 
--- The multipliers give a bound above zero for the target zero, so no point satisfies the program.
+-- The multipliers show that no point satisfies the program.
 pub record IsContradiction (p : Program) (multipliers : List ℚ) : Type 0 where
-  pub multipliers_lawful : AreMultipliers p.rows.items multipliers
-  pub positive : zero_ℚ <ℚ bound_of p (λ _. zero_ℚ) multipliers
+  pub shows : ShowsNoPoint p multipliers
   pub none : (x : ℕ → ℚ) → Satisfies p x → ⊥
 
 -- what an answer says of the program itself
 abbrev pub IsRight : Program → LpAnswer → Type 0
-IsRight p (Optimal basis denominator point multipliers) = (pos 0 <ℤ denominator) × IsOptimum p denominator point.items (map value_of multipliers.items)
+IsRight p (Optimal basis denominator point multipliers) = IsOptimum p denominator point.items (map value_of multipliers.items)
 IsRight p (Infeasible basis multipliers) = IsContradiction p (map value_of multipliers.items)
 IsRight p (Passed basis passed) = Unit {0}
 

@@ -13,5 +13,7 @@ pub mod Moved
 pub mod Writing
 pub mod Path
 pub mod Ending
+pub mod Certificate
+pub mod Checking
 pub mod Answer
 pub mod Laws

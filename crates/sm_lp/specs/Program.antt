@@ -1,6 +1,6 @@
 -- A linear program: its columns with their two ends, its rows, its cost, and what a point and a combination of its rows are.
-use Rattle.std.specs.Prelude.{◌≡◌, ℕ, ℤ, pos, ◌<◌, List, [], ◌∷◌, length, ◌==◌, if◌then◌else◌, slice_index_or, true, false, All}
-use Rattle.sm_frac.specs.Rational.{ℚ, ◌+ℚ◌, ◌*ℚ◌, ◌-ℚ◌, ◌≤ℚ◌, zero_ℚ, whole_ℚ, is_nonnegative}
+use Rattle.std.specs.Prelude.{◌≡◌, ℕ, ℤ, pos, ◌<◌, List, [], ◌∷◌, length, ◌==◌, if◌then◌else◌, slice_index_or, unsigned_abs, true, false, All}
+use Rattle.sm_frac.specs.Rational.{ℚ, ◌+ℚ◌, ◌*ℚ◌, ◌-ℚ◌, ◌≤ℚ◌, zero_ℚ, whole_ℚ, fraction, is_nonnegative}
 use Rattle.sm_lp.specs.declared.program.Program.{Program}
 use Rattle.sm_lp.specs.declared.program.LpRow.{LpRow}
 use Rattle.sm_lp.specs.Dictionary.{total}
@@ -47,6 +47,10 @@ pub record Satisfies (p : Program) (x : ℕ → ℚ) : Type 0 where
 -- the cost of the point x
 abbrev pub cost_of : Program → (ℕ → ℚ) → ℚ
 cost_of p x = total (column_count p) (λ j. cost p j *ℚ x j)
+
+-- the columns' values at a point that is given by numerators over one denominator
+abbrev pub point_value : List ℤ → ℤ → ℕ → ℚ
+point_value point denominator j = fraction (slice_index_or point j (pos 0)) (unsigned_abs denominator)
 
 -- ---- combinations of the rows
 

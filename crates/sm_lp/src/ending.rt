@@ -8,11 +8,11 @@ ghost use Rattle.sm_lp.specs.Dictionary.{IsProper, value_at};
 ghost use Rattle.sm_lp.specs.Rule.{place};
 ghost use Rattle.sm_lp.specs.Moves.{IsOptimal, IsInfeasible};
 ghost use Rattle.sm_lp.specs.Conditions.{IsSolvable, IsBox};
-ghost use Rattle.sm_lp.specs.Program.{column_count};
+ghost use Rattle.sm_lp.specs.Program.{column_count, point_value};
 ghost use Rattle.sm_lp.specs.First.{slack_count, number_count, halves, halves_of};
 ghost use Rattle.sm_lp.specs.Steps.{constant_of};
 ghost use Rattle.sm_lp.specs.Path.{numbers_below, IsOnPath};
-ghost use Rattle.sm_lp.specs.Answer.{row_multipliers, point_value, EndsPath, IsRight, IsExact};
+ghost use Rattle.sm_lp.specs.Answer.{row_multipliers, EndsPath, IsRight, IsExact};
 ghost use Rattle.sm_lp.specs.Table.{dictionary_of};
 ghost use Rattle.sm_lp.specs.Ending.{AreValues, IsValuePassed, IsJoined, IsJoinPassed, IsCommon, IsCommonPassed, slack_of, multiplier_of, AreApart, AreBoxed};
 

@@ -29,7 +29,7 @@ struct Sizes {
 }
 
 /// A whole number as a fraction.
-fn whole(number: i128) -> Frac
+pub(crate) fn whole(number: i128) -> Frac
     requires { unsigned_abs number < 2 ^ 127 }
     ensures { value_of result ≡ whole_ℚ number }
 {

@@ -66,7 +66,7 @@ fn quotients_of(
 }
 
 /// Takes a product from the fraction at a place. A product with 0 takes no work.
-fn subtract_at(
+pub(crate) fn subtract_at(
     mut cells: Vec<Frac>,
     place: usize,
     factor: Frac,

@@ -1,6 +1,9 @@
 //! Programs and their answers. The expected costs come from the vertices in unbounded fractions, by bench/lp_table.py.
-use crate::{LpAnswer, LpRow, Program, solve_lp};
+use crate::{
+    Checked, LpAnswer, LpRow, OutOfMemory, Program, Proposal, certify, is_solvable, solve_lp,
+};
 use sm_frac::Frac;
+use std::alloc::{AllocError, Global};
 use std::process::Abort;
 
 /// Whether the answer has this cost, numerator and denominator, or is infeasible where none is given.
@@ -65,6 +68,42 @@ fn is_infeasible(answer: &LpAnswer, parts: &[(i128, i128)]) -> bool {
     }
 }
 
+/// What the answer proposes, without its basis.
+fn proposal_of(answer: &LpAnswer) -> Result<Option<Proposal>, AllocError> {
+    match answer {
+        LpAnswer::Optimal {
+            denominator,
+            point,
+            multipliers,
+            ..
+        } => {
+            let point = point.clone()?;
+            let multipliers = multipliers.clone()?;
+            Ok(Some(Proposal::Optimal {
+                denominator: *denominator,
+                point,
+                multipliers,
+            }))
+        }
+        LpAnswer::Infeasible { multipliers, .. } => {
+            let multipliers = multipliers.clone()?;
+            Ok(Some(Proposal::Infeasible { multipliers }))
+        }
+        LpAnswer::Passed { .. } => Ok(None),
+    }
+}
+
+/// Whether the check certifies what the answer says, by the answer's own numbers.
+fn is_certified(alloc: Global, program: &Program, answer: &LpAnswer) -> Result<bool, OutOfMemory> {
+    if !is_solvable(program) {
+        return Ok(false);
+    }
+    match proposal_of(answer)? {
+        Some(proposal) => Ok(certify(alloc, program, &proposal)? == Checked::Certified),
+        None => Ok(false),
+    }
+}
+
 #[test]
 fn least_of_two_rows(rt: HostRuntime) {
     let terms_0 = vec![in rt.alloc(); (0, 3), (1, 2)].expect(&rt, "memory");
@@ -89,6 +128,8 @@ fn least_of_two_rows(rt: HostRuntime) {
     let answer = solve_lp(rt.alloc(), &program).expect(&rt, "memory");
     assert!(&rt; has_cost(&program, &answer, Some((7, 10))));
     assert!(&rt; is_optimal(&answer, &[0, 1, 4, 5], 10, &[6, 1], &[(3, 10), (1, 10)]));
+    let certified = is_certified(rt.alloc(), &program, &answer).expect(&rt, "memory");
+    assert!(&rt; certified);
 }
 
 #[test]
@@ -109,6 +150,8 @@ fn row_above_the_box(rt: HostRuntime) {
     let answer = solve_lp(rt.alloc(), &program).expect(&rt, "memory");
     assert!(&rt; has_cost(&program, &answer, None));
     assert!(&rt; is_infeasible(&answer, &[(1, 1)]));
+    let certified = is_certified(rt.alloc(), &program, &answer).expect(&rt, "memory");
+    assert!(&rt; certified);
 }
 
 #[test]
@@ -121,6 +164,8 @@ fn no_columns(rt: HostRuntime) {
     let answer = solve_lp(rt.alloc(), &program).expect(&rt, "memory");
     assert!(&rt; has_cost(&program, &answer, Some((0, 1))));
     assert!(&rt; is_optimal(&answer, &[], 1, &[], &[]));
+    let certified = is_certified(rt.alloc(), &program, &answer).expect(&rt, "memory");
+    assert!(&rt; certified);
 }
 
 #[test]
@@ -147,6 +192,8 @@ fn two_great_numbers(rt: HostRuntime) {
     let answer = solve_lp(rt.alloc(), &program).expect(&rt, "memory");
     assert!(&rt; has_cost(&program, &answer, Some((0, 1))));
     assert!(&rt; is_optimal(&answer, &[2, 3, 4, 5], 1, &[0, 0], &[(0, 1), (0, 1)]));
+    let certified = is_certified(rt.alloc(), &program, &answer).expect(&rt, "memory");
+    assert!(&rt; certified);
 }
 
 #[test]
@@ -158,6 +205,8 @@ fn greatest_ends(rt: HostRuntime) {
     };
     let answer = solve_lp(rt.alloc(), &program).expect(&rt, "memory");
     assert!(&rt; has_cost(&program, &answer, Some((-19, 1))));
+    let certified = is_certified(rt.alloc(), &program, &answer).expect(&rt, "memory");
+    assert!(&rt; certified);
 }
 
 #[test]
@@ -177,6 +226,8 @@ fn equality_at_an_end(rt: HostRuntime) {
     };
     let answer = solve_lp(rt.alloc(), &program).expect(&rt, "memory");
     assert!(&rt; has_cost(&program, &answer, Some((-43, 2))));
+    let certified = is_certified(rt.alloc(), &program, &answer).expect(&rt, "memory");
+    assert!(&rt; certified);
 }
 
 #[test]
@@ -202,6 +253,8 @@ fn two_equalities(rt: HostRuntime) {
     };
     let answer = solve_lp(rt.alloc(), &program).expect(&rt, "memory");
     assert!(&rt; has_cost(&program, &answer, Some((7, 1))));
+    let certified = is_certified(rt.alloc(), &program, &answer).expect(&rt, "memory");
+    assert!(&rt; certified);
 }
 
 #[test]
@@ -227,6 +280,8 @@ fn two_equalities_with_negative_costs(rt: HostRuntime) {
     };
     let answer = solve_lp(rt.alloc(), &program).expect(&rt, "memory");
     assert!(&rt; has_cost(&program, &answer, Some((-29, 2))));
+    let certified = is_certified(rt.alloc(), &program, &answer).expect(&rt, "memory");
+    assert!(&rt; certified);
 }
 
 #[test]
@@ -252,6 +307,8 @@ fn equalities_that_contradict(rt: HostRuntime) {
     };
     let answer = solve_lp(rt.alloc(), &program).expect(&rt, "memory");
     assert!(&rt; has_cost(&program, &answer, None));
+    let certified = is_certified(rt.alloc(), &program, &answer).expect(&rt, "memory");
+    assert!(&rt; certified);
 }
 
 #[test]
@@ -277,6 +334,8 @@ fn one_equality_twice(rt: HostRuntime) {
     };
     let answer = solve_lp(rt.alloc(), &program).expect(&rt, "memory");
     assert!(&rt; has_cost(&program, &answer, Some((4, 1))));
+    let certified = is_certified(rt.alloc(), &program, &answer).expect(&rt, "memory");
+    assert!(&rt; certified);
 }
 
 #[test]
@@ -308,6 +367,8 @@ fn beale(rt: HostRuntime) {
     };
     let answer = solve_lp(rt.alloc(), &program).expect(&rt, "memory");
     assert!(&rt; has_cost(&program, &answer, Some((-5, 1))));
+    let certified = is_certified(rt.alloc(), &program, &answer).expect(&rt, "memory");
+    assert!(&rt; certified);
 }
 
 #[test]
@@ -339,6 +400,8 @@ fn chvatal(rt: HostRuntime) {
     };
     let answer = solve_lp(rt.alloc(), &program).expect(&rt, "memory");
     assert!(&rt; has_cost(&program, &answer, Some((-10, 1))));
+    let certified = is_certified(rt.alloc(), &program, &answer).expect(&rt, "memory");
+    assert!(&rt; certified);
 }
 
 #[test]
@@ -370,6 +433,8 @@ fn klee_and_minty(rt: HostRuntime) {
     };
     let answer = solve_lp(rt.alloc(), &program).expect(&rt, "memory");
     assert!(&rt; has_cost(&program, &answer, Some((-10000, 1))));
+    let certified = is_certified(rt.alloc(), &program, &answer).expect(&rt, "memory");
+    assert!(&rt; certified);
 }
 
 #[test]
@@ -413,6 +478,8 @@ fn many_rows_at_one_point(rt: HostRuntime) {
     };
     let answer = solve_lp(rt.alloc(), &program).expect(&rt, "memory");
     assert!(&rt; has_cost(&program, &answer, Some((12, 1))));
+    let certified = is_certified(rt.alloc(), &program, &answer).expect(&rt, "memory");
+    assert!(&rt; certified);
 }
 
 #[test]
@@ -432,6 +499,8 @@ fn boxes_of_one_point(rt: HostRuntime) {
     };
     let answer = solve_lp(rt.alloc(), &program).expect(&rt, "memory");
     assert!(&rt; has_cost(&program, &answer, Some((2, 1))));
+    let certified = is_certified(rt.alloc(), &program, &answer).expect(&rt, "memory");
+    assert!(&rt; certified);
 }
 
 #[test]
@@ -451,6 +520,8 @@ fn boxes_of_one_point_outside(rt: HostRuntime) {
     };
     let answer = solve_lp(rt.alloc(), &program).expect(&rt, "memory");
     assert!(&rt; has_cost(&program, &answer, None));
+    let certified = is_certified(rt.alloc(), &program, &answer).expect(&rt, "memory");
+    assert!(&rt; certified);
 }
 
 #[test]
@@ -470,6 +541,8 @@ fn empty_row_that_holds(rt: HostRuntime) {
     };
     let answer = solve_lp(rt.alloc(), &program).expect(&rt, "memory");
     assert!(&rt; has_cost(&program, &answer, Some((-1, 1))));
+    let certified = is_certified(rt.alloc(), &program, &answer).expect(&rt, "memory");
+    assert!(&rt; certified);
 }
 
 #[test]
@@ -489,6 +562,8 @@ fn empty_row_that_fails(rt: HostRuntime) {
     };
     let answer = solve_lp(rt.alloc(), &program).expect(&rt, "memory");
     assert!(&rt; has_cost(&program, &answer, None));
+    let certified = is_certified(rt.alloc(), &program, &answer).expect(&rt, "memory");
+    assert!(&rt; certified);
 }
 
 #[test]
@@ -520,6 +595,8 @@ fn denominators_of_several_primes(rt: HostRuntime) {
     };
     let answer = solve_lp(rt.alloc(), &program).expect(&rt, "memory");
     assert!(&rt; has_cost(&program, &answer, Some((232, 361))));
+    let certified = is_certified(rt.alloc(), &program, &answer).expect(&rt, "memory");
+    assert!(&rt; certified);
 }
 
 #[test]
@@ -551,6 +628,8 @@ fn infeasible_by_three_rows(rt: HostRuntime) {
     };
     let answer = solve_lp(rt.alloc(), &program).expect(&rt, "memory");
     assert!(&rt; has_cost(&program, &answer, None));
+    let certified = is_certified(rt.alloc(), &program, &answer).expect(&rt, "memory");
+    assert!(&rt; certified);
 }
 
 #[test]
@@ -570,4 +649,6 @@ fn no_cost(rt: HostRuntime) {
     };
     let answer = solve_lp(rt.alloc(), &program).expect(&rt, "memory");
     assert!(&rt; has_cost(&program, &answer, Some((0, 1))));
+    let certified = is_certified(rt.alloc(), &program, &answer).expect(&rt, "memory");
+    assert!(&rt; certified);
 }

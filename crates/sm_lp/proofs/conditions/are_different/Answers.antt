@@ -1,4 +1,4 @@
-use Rattle.std.proofs.Common.{◌∙◌, ℕ, ℤ, pos, ap, sym}
+use Rattle.std.proofs.Common.{pos}
 use Rattle.sm_lp.proofs.conditions.are_different.Goals as goal
 
 pub returns-in-Some : goal.returns-in-Some

@@ -1,4 +1,4 @@
-use Rattle.std.proofs.Common.{◌≡◌, ℕ, ℤ, ◌<◌, ◌≢◌, slice_index_or}
+use Rattle.std.proofs.Common.{ℕ, ℤ, ◌<◌, ◌≢◌, slice_index_or}
 use Rattle.sm_lp.proofs.conditions.are_different.Given as goal
 
 abbrev pub invariant-loop-j : goal.invariant-loop-j

@@ -74,7 +74,7 @@ returns-in-Ok-common_denominator-clause-right c =
     let ms = goal_multipliers p d t.constant t.goal c.deref-in-Ok-common_denominator-2.result.now (map value_of c.in_ok-multipliers-in-Ok-common_denominator.multipliers.items) c.requires.constant c.requires.goal c.deref-in-Ok-common_denominator-2.ensures.value c.in_ok-multipliers-in-Ok-common_denominator.ensures in
     let is = c.deref-in-Ok-common_denominator.ensures.value in
     let made = optimum_read p d v c.deref-in-Ok-common_denominator.result.now e c.in_ok-point-in-Ok-common_denominator.point.items (map value_of c.in_ok-multipliers-in-Ok-common_denominator.multipliers.items) c.requires.solvable (path_tracked p d c.requires.path) o c.in-Ok.ensures.values common is c.in_ok-point-in-Ok-common_denominator.ensures.long (simp to_z-of_z at c.in_ok-point-in-Ok-common_denominator.ensures.exact) ms in
-    simp to_z-of_z (omega (arith, ints), made)
+    simp to_z-of_z made
 
 pub returns-in-Ok-common_denominator-clause-exact :
     goal.returns-in-Ok-common_denominator-clause-exact

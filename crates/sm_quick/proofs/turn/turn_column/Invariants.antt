@@ -1,0 +1,5 @@
+use Rattle.sm_quick.specs.Shape.{IsSameShape}
+use Rattle.sm_quick.proofs.turn.turn_column.Given as goal
+
+abbrev pub invariant-loop-i : goal.invariant-loop-i
+invariant-loop-i l = IsSameShape l.initial.tableau l.tableau

@@ -1,0 +1,18 @@
+//! A quick simplex for linear programs that proposes answers, each of which carries its own proof.
+#![tactic(auto)]
+
+mod build;
+mod choice;
+mod number;
+mod opening;
+mod pivot;
+mod proposing;
+mod reading;
+mod row;
+mod search;
+mod tableau;
+#[cfg(test)]
+mod tests;
+mod turn;
+
+pub use proposing::propose;

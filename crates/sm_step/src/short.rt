@@ -6,10 +6,10 @@ use std::alloc::{AllocError, Global};
 use std::default::MadeWith;
 use std::marker::Model;
 
-/// A list inside a line: up to four items stay in the line itself, more are in an allocation. Contracts see it as the
+/// A list inside a line: up to two items stay in the line itself, more are in an allocation. Contracts see it as the
 /// list of its items.
 pub struct Short<T> {
-    items: SmallVec<T, 4>,
+    items: SmallVec<T, 2>,
 }
 
 /// Written by hand, so that a line that is dropped has one case for each of its lists, however long they are.

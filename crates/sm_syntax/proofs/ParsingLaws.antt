@@ -24,11 +24,11 @@ accepted_derives {g} (takes A rhs ss d t ts o is r) e = rule A rhs ss (kinds (t 
 
 -- ---- the first bad token
 
--- the first token of what stands before a bad one and goes on with it
-first_kind : (t0 : Token) (ts0 before rest : List Token) (t : Token) (later : List Token) (w : List ℕ) → t0 ∷ ts0 ≡ before ++ rest → rest ≡ t ∷ later
+-- the first token of what stands before a token and goes on with it
+first_kind : (t0 : Token) (ts0 before : List Token) (t : Token) (later : List Token) (w : List ℕ) → t0 ∷ ts0 ≡ before ++ t ∷ later
     → (v : List ℕ) × (kinds before ++ kind t ∷ w ≡ kind t0 ∷ v)
-first_kind t0 ts0 [] rest t later w split is = (w, let same : t0 ∷ ts0 ≡ t ∷ later = split ∙ is in let e : t ≡ t0 = cc in ap (λ (x : Token). kind x ∷ w) e)
-first_kind t0 ts0 (b ∷ bs) rest t later w split is = (kinds bs ++ kind t ∷ w, let e : b ≡ t0 = cc in ap (λ (x : Token). kind x ∷ (kinds bs ++ kind t ∷ w)) e)
+first_kind t0 ts0 [] t later w split = (w, let e : t ≡ t0 = cc in ap (λ (x : Token). kind x ∷ w) e)
+first_kind t0 ts0 (b ∷ bs) t later w split = (kinds bs ++ kind t ∷ w, let e : b ≡ t0 = cc in ap (λ (x : Token). kind x ∷ (kinds bs ++ kind t ∷ w)) e)
 
 -- the alternative of a word is the one that is predicted
 same_side : {g : Grammar} (ok : IsLl1 g) (A : ℕ) (rhs other_side ss : List Symbol) (c : ℕ) (v w : List ℕ) → IsOneOf (g.alternatives A) other_side → IsOpen g (node A ∷ ss)
@@ -37,95 +37,129 @@ same_side {g} ok A rhs other_side ss c v w has open_ss d is predicted =
     let only = chosen ok A other_side ss c v has open_ss (subst (λ (u : List ℕ). Derives g (other_side ++ ss) u) is d) in
     let q : Some other_side ≡ Some rhs = sym only ∙ predicted in cc
 
-pub first_bad : {g : Grammar} (ok : IsLl1 g) {ss : List Symbol} {d : ℕ} {text : List Token} {o : Outcome} → Run g ss d text o → (rest : List Token) → o ≡ bad rest → IsOpen g ss → FirstBad g ss text rest
-first_bad ok (whole d) rest e open_ss = cc
-first_bad {g} ok (more d t ts) rest e open_ss = record {
+pub first_bad : {g : Grammar} (ok : IsLl1 g) {ss : List Symbol} {d : ℕ} {text : List Token} {o : Outcome} → Run g ss d text o
+    → (wrong : Token) (rest : List Token) → o ≡ bad (wrong ∷ rest) → IsOpen g ss → FirstBad g ss text wrong
+first_bad ok (whole d) wrong rest e open_ss = cc
+first_bad ok (more d t ts) wrong rest e open_ss = record {
   before = [];
-  split = let same : t ∷ ts ≡ rest = cc in same;
+  later = rest;
+  split = let same : t ∷ ts ≡ wrong ∷ rest = cc in same;
   more = [];
   good = done;
-  never = λ t' later v is r. let nil : kind t' ∷ v ≡ [] = at_done r in cc;
+  never = λ w r. let nil : kind wrong ∷ w ≡ [] = at_done r in cc;
 }
-first_bad {g} ok (eats a ss d t ts o same fits run) rest e open_ss =
-    let r = first_bad ok run rest e open_ss in
+first_bad {g} ok (eats a ss d t ts o same fits run) wrong rest e open_ss =
+    let r = first_bad ok run wrong rest e open_ss in
     record {
       before = t ∷ r.before;
+      later = r.later;
       split = ap (λ (x : List Token). t ∷ x) r.split;
       more = r.more;
       good = subst (λ (c : ℕ). Derives g (leaf a ∷ ss) (c ∷ (kinds r.before ++ r.more))) same (token a ss (kinds r.before ++ r.more) r.good);
-      never = λ t' later v is w.
-          let u = at_token w in
-          let e2 : u.0 ≡ kinds r.before ++ kind t' ∷ v = (let q : kind t ∷ (kinds r.before ++ kind t' ∷ v) ≡ a ∷ u.0 = u.1 in cc) in
-          r.never t' later v is (subst (λ (x : List ℕ). Derives g ss x) e2 u.2);
+      never = λ w v.
+          let u = at_token v in
+          let e2 : u.0 ≡ kinds r.before ++ kind wrong ∷ w = (let q : kind t ∷ (kinds r.before ++ kind wrong ∷ w) ≡ a ∷ u.0 = u.1 in cc) in
+          r.never w (subst (λ (x : List ℕ). Derives g ss x) e2 u.2);
     }
-first_bad ok (stops a ss d t ts is deep) rest e open_ss = cc
-first_bad {g} ok (other a ss d t ts ne) rest e open_ss =
+first_bad ok (stops a ss d t ts is deep) wrong rest e open_ss = cc
+first_bad ok (other a ss d t ts ne) wrong rest e open_ss =
     let good = some_word ok (leaf a ∷ ss) in
-    let same : t ∷ ts ≡ rest = cc in
+    let same : t ∷ ts ≡ wrong ∷ rest = cc in
+    let is : t ≡ wrong = cc in
     record {
       before = [];
+      later = rest;
       split = same;
       more = good.0;
       good = good.1;
-      never = λ t' later v is w. let u = at_token w in let q : kind t' ∷ v ≡ a ∷ u.0 = u.1 in let p : t ∷ ts ≡ t' ∷ later = same ∙ is in ne (let z : a ≡ kind t = cc in z);
+      never = λ w v. let u = at_token v in let q : kind wrong ∷ w ≡ a ∷ u.0 = u.1 in ne (let z : kind wrong ≡ a = cc in sym z ∙ ap kind (sym is));
     }
-first_bad {g} ok (takes A rhs ss d t ts o is_rhs run) rest e open_ss =
+first_bad {g} ok (takes A rhs ss d t ts o is_rhs run) wrong rest e open_ss =
     let has = predict_among g A (kind t) rhs is_rhs in
-    let r = first_bad ok run rest e (open_more ok A rhs ss (ok.follows A rhs has) open_ss.0 open_ss.1) in
+    let r = first_bad ok run wrong rest e (open_more ok A rhs ss (ok.follows A rhs has) open_ss.0 open_ss.1) in
     record {
       before = r.before;
+      later = r.later;
       split = r.split;
       more = r.more;
       good = rule A rhs ss (kinds r.before ++ r.more) has r.good;
-      never = λ t' later v is w.
-          let u = at_rule w in
-          let head = first_kind t ts r.before rest t' later v r.split is in
-          let same = same_side ok A rhs u.0 ss (kind t) head.0 (kinds r.before ++ kind t' ∷ v) u.1 open_ss u.2 head.1 is_rhs in
-          r.never t' later v is (subst (λ (x : List Symbol). Derives g (x ++ ss) (kinds r.before ++ kind t' ∷ v)) same u.2);
+      never = λ w v.
+          let u = at_rule v in
+          let head = first_kind t ts r.before wrong r.later w r.split in
+          let same = same_side ok A rhs u.0 ss (kind t) head.0 (kinds r.before ++ kind wrong ∷ w) u.1 open_ss u.2 head.1 is_rhs in
+          r.never w (subst (λ (x : List Symbol). Derives g (x ++ ss) (kinds r.before ++ kind wrong ∷ w)) same u.2);
     }
+
+kinds_join : (xs ys : List Token) → kinds (xs ++ ys) ≡ kinds xs ++ kinds ys
+kinds_join [] ys = refl
+kinds_join (x ∷ xs) ys = ap (λ (r : List ℕ). kind x ∷ r) (kinds_join xs ys)
+
+-- a word of the grammar has no bad token
+pub word_has_no_bad : {g : Grammar} {ss : List Symbol} {text : List Token} → Derives g ss (kinds text) → (wrong : Token) → FirstBad g ss text wrong → ⊥
+word_has_no_bad {g} {ss} {text} d wrong b =
+    let e : kinds text ≡ kinds b.before ++ kind wrong ∷ kinds b.later = ap kinds b.split ∙ kinds_join b.before (wrong ∷ b.later) in
+    b.never (kinds b.later) (subst (λ (w : List ℕ). Derives g ss w) e d)
+
+-- Of two tokens of a text, each the first with which nothing of a family goes on, neither stands before the other.
+neither_before : (Good : List ℕ → Type 0) (xs ys : List Token) (a b : Token) (l m : List Token) (v w : List ℕ) → xs ++ a ∷ l ≡ ys ++ b ∷ m
+    → Good (kinds xs ++ v) → ((r : List ℕ) → Good (kinds xs ++ kind a ∷ r) → ⊥)
+    → Good (kinds ys ++ w) → ((r : List ℕ) → Good (kinds ys ++ kind b ∷ r) → ⊥) → a ≡ b
+neither_before Good [] [] a b l m v w same good_a never_a good_b never_b = cc
+neither_before Good [] (y ∷ ys) a b l m v w same good_a never_a good_b never_b =
+    let e : y ≡ a = cc in
+    absurd (never_a (kinds ys ++ w) (subst (λ (t : Token). Good (kind t ∷ (kinds ys ++ w))) e good_b))
+neither_before Good (x ∷ xs) [] a b l m v w same good_a never_a good_b never_b =
+    let e : x ≡ b = cc in
+    absurd (never_b (kinds xs ++ v) (subst (λ (t : Token). Good (kind t ∷ (kinds xs ++ v))) e good_a))
+neither_before Good (x ∷ xs) (y ∷ ys) a b l m v w same good_a never_a good_b never_b =
+    let e : y ≡ x = cc in
+    let rest : xs ++ a ∷ l ≡ ys ++ b ∷ m = cc in
+    neither_before (λ (r : List ℕ). Good (kind x ∷ r)) xs ys a b l m v w rest good_a never_a
+    (subst (λ (t : Token). Good (kind t ∷ (kinds ys ++ w))) e good_b)
+    (λ r g. never_b r (subst (λ (t : Token). Good (kind t ∷ (kinds ys ++ kind b ∷ r))) (sym e) g))
+
+-- tokens have one first bad one
+pub same_bad : {g : Grammar} {ss : List Symbol} {text : List Token} (a b : Token) → FirstBad g ss text a → FirstBad g ss text b → a ≡ b
+same_bad {g} {ss} a b p q = neither_before (Derives g ss) p.before q.before a b p.later q.later p.more q.more (sym p.split ∙ q.split) p.good p.never q.good q.never
 
 -- ---- brackets
 
-pub first_deep : {g : Grammar} (ok : IsLl1 g) {ss : List Symbol} {d : ℕ} {text : List Token} {o : Outcome} → Run g ss d text o → (rest : List Token) → o ≡ too_deep rest → TooDeep g ss d text rest
-first_deep ok (whole d) rest e = cc
-first_deep ok (more d t ts) rest e = cc
-first_deep {g} ok (eats a ss d t ts o same fits run) rest e =
-    let r = first_deep ok run rest e in
+pub first_deep : {g : Grammar} (ok : IsLl1 g) {ss : List Symbol} {d : ℕ} {text : List Token} {o : Outcome} → Run g ss d text o
+    → (bracket : Token) (rest : List Token) → o ≡ too_deep (bracket ∷ rest) → TooDeep g ss d text bracket
+first_deep ok (whole d) bracket rest e = cc
+first_deep ok (more d t ts) bracket rest e = cc
+first_deep {g} ok (eats a ss d t ts o same fits run) bracket rest e =
+    let r = first_deep ok run bracket rest e in
     record {
       before = t ∷ r.before;
-      bracket = r.bracket;
       later = r.later;
-      rest_is = r.rest_is;
       split = ap (λ (x : List Token). t ∷ x) r.split;
       deep = r.deep;
       more = r.more;
-      good = subst (λ (c : ℕ). Derives g (leaf a ∷ ss) (c ∷ (kinds r.before ++ kind r.bracket ∷ r.more))) same (token a ss (kinds r.before ++ kind r.bracket ∷ r.more) r.good);
+      good = subst (λ (c : ℕ). Derives g (leaf a ∷ ss) (c ∷ (kinds r.before ++ kind bracket ∷ r.more))) same (token a ss (kinds r.before ++ kind bracket ∷ r.more) r.good);
     }
-first_deep {g} ok (stops a ss d t ts is deep) rest e =
-    let same : t ∷ ts ≡ rest = cc in
+first_deep {g} ok (stops a ss d t ts same deep) bracket rest e =
+    let split : t ∷ ts ≡ bracket ∷ rest = cc in
+    let is : t ≡ bracket = cc in
     let w = some_word ok ss in
     record {
       before = [];
-      bracket = t;
-      later = ts;
-      rest_is = sym same;
-      split = same;
-      deep = deep;
+      later = rest;
+      split = split;
+      deep = subst (λ (x : Token). is_too_deep d (kind x) ≡ true) is deep;
       more = w.0;
-      good = subst (λ (c : ℕ). Derives g (leaf a ∷ ss) (c ∷ w.0)) is (token a ss w.0 w.1);
+      good = subst (λ (c : ℕ). Derives g (leaf a ∷ ss) (c ∷ w.0)) (same ∙ ap kind is) (token a ss w.0 w.1);
     }
-first_deep ok (other a ss d t ts ne) rest e = cc
-first_deep {g} ok (takes A rhs ss d t ts o is_rhs run) rest e =
-    let r = first_deep ok run rest e in
+first_deep ok (other a ss d t ts ne) bracket rest e = cc
+first_deep {g} ok (takes A rhs ss d t ts o is_rhs run) bracket rest e =
+    let r = first_deep ok run bracket rest e in
     record {
       before = r.before;
-      bracket = r.bracket;
       later = r.later;
-      rest_is = r.rest_is;
       split = r.split;
       deep = r.deep;
       more = r.more;
-      good = rule A rhs ss (kinds r.before ++ kind r.bracket ∷ r.more) (predict_among g A (kind t) rhs is_rhs) r.good;
+      good = rule A rhs ss (kinds r.before ++ kind bracket ∷ r.more) (predict_among g A (kind t) rhs is_rhs) r.good;
     }
 
 abbrev IsShallow : Outcome → Type 0
@@ -167,20 +201,20 @@ no_bracket ok (other a ss d t ts ne) s open_ss (x ∷ xs) b later w split deep v
 no_bracket {g} ok (takes A rhs ss d t ts o is_rhs run) s open_ss before b later w split deep v =
     let has = predict_among g A (kind t) rhs is_rhs in
     let u = at_rule v in
-    let head = first_kind t ts before (b ∷ later) b later w split refl in
+    let head = first_kind t ts before b later w split in
     let same = same_side ok A rhs u.0 ss (kind t) head.0 (kinds before ++ kind b ∷ w) u.1 open_ss u.2 head.1 is_rhs in
     no_bracket ok run s (open_more ok A rhs ss (ok.follows A rhs has) open_ss.0 open_ss.1) before b later w split deep
     (subst (λ (x : List Symbol). Derives g (x ++ ss) (kinds before ++ kind b ∷ w)) same u.2)
 
 pub bad_is_shallow : {g : Grammar} (ok : IsLl1 g) {ss : List Symbol} {d : ℕ} {text rest : List Token} → Run g ss d text (bad rest) → IsOpen g ss
-    → (deep_rest : List Token) → TooDeep g ss d text deep_rest → ⊥
-bad_is_shallow {g} ok {ss} {d} {text} run open_ss deep_rest x =
-    no_bracket ok run tt open_ss x.before x.bracket x.later x.more (subst (λ (r : List Token). text ≡ x.before ++ r) x.rest_is x.split) x.deep x.good
+    → (bracket : Token) → TooDeep g ss d text bracket → ⊥
+bad_is_shallow ok run open_ss bracket x =
+    no_bracket ok run tt open_ss x.before bracket x.later x.more x.split x.deep x.good
 
 pub accepted_is_shallow : {g : Grammar} (ok : IsLl1 g) {ss : List Symbol} {d : ℕ} {text : List Token} → Run g ss d text accepted → IsOpen g ss
-    → (deep_rest : List Token) → TooDeep g ss d text deep_rest → ⊥
-accepted_is_shallow {g} ok {ss} {d} {text} run open_ss deep_rest x =
-    no_bracket ok run tt open_ss x.before x.bracket x.later x.more (subst (λ (r : List Token). text ≡ x.before ++ r) x.rest_is x.split) x.deep x.good
+    → (bracket : Token) → TooDeep g ss d text bracket → ⊥
+accepted_is_shallow ok run open_ss bracket x =
+    no_bracket ok run tt open_ss x.before bracket x.later x.more x.split x.deep x.good
 
 -- ---- a text has one tree
 

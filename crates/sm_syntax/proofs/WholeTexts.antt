@@ -61,7 +61,7 @@ refused_syntax s t text failure.Syntax p r l c all closed at fault is found =
     let e : refusal.Syntax p.line p.column ≡ refusal.Syntax l c = sym is ∙ found in
     let el : p.line ≡ l = cc in
     let ec : p.column ≡ c = cc in
-    (left t, first_bad grammar_ll1 (stop_runs s text (bad (left t)) all closed fault) (left t) refl start_open, sym at ∙ same_place p l c el ec)
+    (t.first, first_bad grammar_ll1 (stop_runs s text (bad (left t)) all closed fault) t.first t.later refl start_open, sym at ∙ same_place p l c el ec)
   where
     same_place : (q : Place) (m n : ℕ) → q.line ≡ m → q.column ≡ n → q ≡ record { line = m; column = n }
     same_place q m n a b = rw (sym a, sym b) refl
@@ -81,5 +81,5 @@ refused_nesting s t text failure.Syntax p r n all closed fault is found = let e 
 refused_nesting s t text failure.Nesting p r n all closed fault is found =
     let e : refusal.Nesting 65 ≡ refusal.Nesting n = sym is ∙ found in
     let count : 65 ≡ n = cc in
-    (sym count, (left t, first_deep grammar_ll1 (stop_runs s text (too_deep (left t)) all closed fault) (left t) refl))
+    (sym count, (t.first, first_deep grammar_ll1 (stop_runs s text (too_deep (left t)) all closed fault) t.first t.later refl))
 refused_nesting s t text failure.OutOfMemory p r n all closed fault is found = let e : refusal.OutOfMemory ≡ refusal.Nesting n = sym is ∙ found in cc

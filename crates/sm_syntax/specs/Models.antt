@@ -3,7 +3,7 @@ use Rattle.std.specs.Prelude.{◌≡◌, ℕ, List, []}
 use Rattle.sm_syntax.specs.Tokens.{Token, tokens}
 use Rattle.sm_syntax.specs.Grammars.{Derives}
 use Rattle.sm_syntax.specs.Grammar.{grammar, start}
-use Rattle.sm_syntax.specs.Parsing.{Builds, FirstBad, TooDeep, kinds, place_of}
+use Rattle.sm_syntax.specs.Parsing.{Builds, FirstBad, TooDeep, kinds}
 use Rattle.sm_syntax.specs.Trees.{Tree}
 use Rattle.sm_syntax.specs.Steps.{tree_then}
 use Rattle.sm_syntax.specs.declared.place.Place.{Place}
@@ -25,11 +25,11 @@ IsTreeOf text whole = Builds grammar start (tokens text) (tree_then whole [])
 
 -- at this place stands the first token after which the grammar has no continuation
 abbrev pub IsFirstBad : List ℕ → Place → Type 0
-IsFirstBad text place = (rest : List Token) × FirstBad grammar start (tokens text) rest × (place_of rest ≡ place)
+IsFirstBad text place = (wrong : Token) × FirstBad grammar start (tokens text) wrong × (wrong.place ≡ place)
 
 -- a bracket is opened inside 64 open ones, and the grammar has a continuation after it
 abbrev pub IsTooDeep : List ℕ → Type 0
-IsTooDeep text = (rest : List Token) × TooDeep grammar start 0 (tokens text) rest
+IsTooDeep text = (bracket : Token) × TooDeep grammar start 0 (tokens text) bracket
 
 -- why there is no tree, where the reader stops at a place
 abbrev pub refusal_at : Failure → Place → ParseRefusal

@@ -62,13 +62,14 @@ pub data Builds (g : Grammar) : List Symbol → List Token → List Step → Typ
 
 -- ---- the first bad token
 
--- What stands before it begins some word of the grammar, and with it no word does.
-pub record FirstBad (g : Grammar) (ss : List Symbol) (text rest : List Token) : Type 0 where
+-- What stands before this token begins some word of the grammar, and with the token no word does.
+pub record FirstBad (g : Grammar) (ss : List Symbol) (text : List Token) (wrong : Token) : Type 0 where
   pub before : List Token
-  pub split : text ≡ before ++ rest
+  pub later : List Token
+  pub split : text ≡ before ++ wrong ∷ later
   pub more : List ℕ
   pub good : Derives g ss (kinds before ++ more)
-  pub never : (t : Token) (later : List Token) (w : List ℕ) → rest ≡ t ∷ later → Derives g ss (kinds before ++ kind t ∷ w) → ⊥
+  pub never : (w : List ℕ) → Derives g ss (kinds before ++ kind wrong ∷ w) → ⊥
 
 -- ---- brackets
 
@@ -84,13 +85,11 @@ depth_behind d (t ∷ ts) = depth_behind (depth_after d (kind t)) ts
 abbrev pub is_too_deep : ℕ → ℕ → Bool
 is_too_deep d c = opens c && nat_le 64 d
 
--- The rest begins with a bracket that is opened inside 64 open ones, and some word of the grammar begins so.
-pub record TooDeep (g : Grammar) (ss : List Symbol) (d : ℕ) (text rest : List Token) : Type 0 where
+-- This bracket is opened inside 64 open ones, and some word of the grammar begins with the tokens up to it.
+pub record TooDeep (g : Grammar) (ss : List Symbol) (d : ℕ) (text : List Token) (bracket : Token) : Type 0 where
   pub before : List Token
-  pub bracket : Token
   pub later : List Token
-  pub rest_is : rest ≡ bracket ∷ later
-  pub split : text ≡ before ++ rest
+  pub split : text ≡ before ++ bracket ∷ later
   pub deep : is_too_deep (depth_behind d before) (kind bracket) ≡ true
   pub more : List ℕ
   pub good : Derives g ss (kinds before ++ kind bracket ∷ more)

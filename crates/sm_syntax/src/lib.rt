@@ -8,6 +8,8 @@ ghost use Rattle.sm_syntax.specs.Trees.{tree_of, Tree as PlainTree};
 mod expression;
 mod failure;
 mod formula;
+#[cfg(test)]
+mod model_tests;
 mod place;
 #[cfg(test)]
 mod printer;
@@ -92,4 +94,10 @@ fn refusal(failure: Failure, place: Place) -> ParseRefusal
 /// A law: no text has two trees.
 pub fn one_tree()
     ensures { (text : Bytes) (a b : PlainTree) → IsTreeOf text a → IsTreeOf text b → a ≡ b }
+{}
+
+/// A law: no text has two first bad tokens, and a model has none.
+pub fn one_first_bad()
+    ensures one { (text : Bytes) (a b : Place) → IsFirstBad text a → IsFirstBad text b → a ≡ b }
+    ensures none { (text : Bytes) (place : Place) → IsModel text → IsFirstBad text place → ⊥ }
 {}

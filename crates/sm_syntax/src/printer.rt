@@ -617,7 +617,7 @@ fn print_goal(out: &mut Vec<u8>, goal: &Goal) -> Printed {
 }
 
 /// The tokens of a tree, each behind a space.
-pub fn print_tree(out: &mut Vec<u8>, tree: &Tree) -> Printed {
+pub(crate) fn print_tree(out: &mut Vec<u8>, tree: &Tree) -> Printed {
     for item in tree.items.as_slice() {
         print_item(out, item)?;
     }

@@ -1,32 +1,11 @@
 //! Worked texts. Each place was marked by hand in its text, at the first token with which no model can go on.
 use super::{ParseRefusal, parse};
-use crate::printer::print_tree;
 use std::alloc::{AllocError, Global};
 use std::test::Fail;
 
 /// Whether a text is refused at this place.
 fn is_bad_at(alloc: Global, text: &[u8], line: u32, column: u32) -> bool {
     matches!(parse(alloc, text), Err(ParseRefusal::Syntax { line: l, column: c }) if l == line && c == column)
-}
-
-/// The tree of a text, printed; nothing where it has none.
-fn printed(alloc: Global, text: &[u8]) -> Result<Vec<u8>, AllocError> {
-    let mut out = Vec::new(alloc);
-    if let Ok(tree) = parse(alloc, text) {
-        print_tree(&mut out, &tree)?;
-    }
-    Ok(out)
-}
-
-/// A text without its blanks.
-fn without_blanks(alloc: Global, text: &[u8]) -> Result<Vec<u8>, AllocError> {
-    let mut out = Vec::new(alloc);
-    for byte in text {
-        if !byte.is_ascii_whitespace() {
-            out.push(*byte)?;
-        }
-    }
-    Ok(out)
 }
 
 /// A text that opens and closes a bracket so many times inside itself.
@@ -82,11 +61,22 @@ fn refuses_items(rt: HostRuntime) -> Result<(), Fail> {
 
 #[test]
 fn refuses_goals(rt: HostRuntime) -> Result<(), Fail> {
-    let texts: [(&[u8], u32, u32); 4] = [
+    let texts: [(&[u8], u32, u32); 7] = [
         (b"minimise ; satisfy;", 1, 10),
         (b"maximise x maximise x;", 1, 12),
         (b"minimise x then maximise y;", 1, 12),
         (b"minimise x = 1;", 1, 12),
+        (b"var y : real 0..1; minimise y then minimise y;", 1, 31),
+        (
+            b"var x : set 0..5; var y : set 0..5; post x + y >= 7; minimise x + y then maximise x;",
+            1,
+            69,
+        ),
+        (
+            b"var x : set 0..5; var y : set 0..5; post x + y >= 7; minimise x + y then maximise x + 2*y;",
+            1,
+            69,
+        ),
     ];
     for (text, line, column) in texts {
         let found = is_bad_at(rt.alloc(), text, line, column);
@@ -176,7 +166,7 @@ fn refuses_formulas(rt: HostRuntime) -> Result<(), Fail> {
 
 #[test]
 fn refuses_constraints(rt: HostRuntime) -> Result<(), Fail> {
-    let texts: [(&[u8], u32, u32); 16] = [
+    let texts: [(&[u8], u32, u32); 17] = [
         (b"post when x = 1 then y <= 1; satisfy;", 1, 11),
         (b"post when [x = 1] y <= 1; satisfy;", 1, 19),
         (b"post when [x = 1], then y <= 1; satisfy;", 1, 20),
@@ -193,6 +183,7 @@ fn refuses_constraints(rt: HostRuntime) -> Result<(), Fail> {
         (b"post indexsum(z; x , [1]); satisfy;", 1, 20),
         (b"post assign(z; x : 1); satisfy;", 1, 20),
         (b"post assign(z; x : [1] , y : [2]); satisfy;", 1, 24),
+        (b"post indexsum(z; x : [1] for i ); satisfy;", 1, 32),
     ];
     for (text, line, column) in texts {
         let found = is_bad_at(rt.alloc(), text, line, column);
@@ -203,7 +194,7 @@ fn refuses_constraints(rt: HostRuntime) -> Result<(), Fail> {
 
 #[test]
 fn refuses_resources(rt: HostRuntime) -> Result<(), Fail> {
-    let texts: [(&[u8], u32, u32); 8] = [
+    let texts: [(&[u8], u32, u32); 12] = [
         (b"post cumulative(2; s, 1 ; t, 1, 1); satisfy;", 1, 25),
         (b"post cumulative(2; s, 1, 1 when s = 1); satisfy;", 1, 33),
         (b"post disjunctive(s ; t, 2); satisfy;", 1, 20),
@@ -212,6 +203,18 @@ fn refuses_resources(rt: HostRuntime) -> Result<(), Fail> {
         (b"post packing(z; 5; [1]); satisfy;", 1, 17),
         (b"post packing(z; [5]; [1] , x, 1, [0]); satisfy;", 1, 26),
         (b"post packing(z; [5]; [1]; x, 1, 0); satisfy;", 1, 33),
+        (
+            b"post cumulative(2; s, 1, 1 for i in I when [s = 1]); satisfy;",
+            1,
+            39,
+        ),
+        (b"post disjunctive(s, 2 when s = 1); satisfy;", 1, 28),
+        (b"post disjunctive(s, 2 for i in I, 3); satisfy;", 1, 35),
+        (
+            b"post packing(z; [5]; [1]; x, 1, [0] for x ); satisfy;",
+            1,
+            43,
+        ),
     ];
     for (text, line, column) in texts {
         let found = is_bad_at(rt.alloc(), text, line, column);
@@ -261,50 +264,6 @@ fn refuses_tokens(rt: HostRuntime) -> Result<(), Fail> {
     for (text, line, column) in texts {
         let found = is_bad_at(rt.alloc(), text, line, column);
         assert!(rt; found);
-    }
-    Ok(())
-}
-
-#[test]
-fn reads_models(rt: HostRuntime) -> Result<(), Fail> {
-    let texts: [&[u8]; 16] = [
-        b"var x : set 0..5; var y : set 0..5; post x + y >= 7; minimise 2*x + 3*y;",
-        b"satisfy;",
-        b"index J = 0..2; var x[J] : set 0..4; post forall i in J, j in J if i < j : x[j] - x[i] >= d[i];\
-           minimise x[2];",
-        b"var x : set {0, 2}; var y : set {0, 2}; var z : set 0..2; post alldiff(x, y, z) infer bounds;\
-           satisfy;",
-        b"var x : set 0..2; var z : int 0..10; post element(x, [7, 3, 9], z); minimise z;",
-        b"var a : real 0..100; var b : real 0..100; var c : real 0..100; post 2*a + 3*b + c <= 5;\
-           maximise 5*a + 4*b + 3*c;",
-        b"index J = 0..2; var s[J] : set 0..3; var m : int 0..10; post cumulative(2;\
-           s[j], 2, 1 for j in J); post forall j in J : m - s[j] >= 2; minimise m;",
-        b"var s : set 0..1; var t : set 0..1; post disjunctive(s, 2; t, 2); post cumulative(1; s, 2, 1;\
-           t, 2, 1); satisfy;",
-        b"var u : set 0..1; post u >= 0 branch 1 relax none infer full pick point split least; satisfy;",
-        b"index J = 0..2; var x[J] : set 0..1; var z : int 0..10; post packing(z; [5, 5]; [1, 1];\
-           x[j], s[j], [0, 0] for j in J); minimise z;",
-        b"index I = 0..1; index J = 0..4; var a[J] : set 0..1; var z : int 0..100; var s[I,J] : set 0..8;\
-           post indexsum(z; a[j] : [c[i,j] for i in I] for j in J);\
-           post forall i in I : disjunctive(s[i,j], d[j] when [a[j] = i] for j in J) sub i;\
-           post forall i in I, j in J : when [a[j] = i] then s[i,j] + d[j] <= 8 sub i; minimise z;",
-        b"index I = 1..12; var p[I] : set 0..1;\
-           post logic any([p[i] = 0] and [p[i] = 1] for i in I) relax none; satisfy;",
-        b"index N = 0..3; var x[N] : set 0..3; post circuit(x[i] for i in N); satisfy;",
-        b"index J = 0..2; var x[J] : set 0..2; var z : int 0..100; post assign(z;\
-           x[j] : [c[j,i] for i in J] for j in J); minimise z;",
-        b"post logic not not ([x <= 1] or [y >= 2]) implies all([z != -3] for i in I); satisfy;",
-        b"\
-          post -x + sum(2*y[i]*(1 - i) for i in I, j in J if i >= j and i != 3) = 0 infer none relax on pick first split half;\
-           satisfy;",
-    ];
-    for text in texts {
-        let once = printed(rt.alloc(), text)?;
-        let twice = printed(rt.alloc(), &once)?;
-        assert!(rt; once == twice);
-        let tokens = without_blanks(rt.alloc(), text)?;
-        let kept = without_blanks(rt.alloc(), &once)?;
-        assert!(rt; kept == tokens);
     }
     Ok(())
 }

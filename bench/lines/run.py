@@ -121,4 +121,5 @@ def main():
             print(f"| {what} | {took:.3f} s | {size / took / 1e6:,.0f} MB/s |")
 
 
-main()
+if __name__ == "__main__":
+    main()

@@ -26,7 +26,7 @@ fn nested(alloc: Global, parts: [&[u8]; 5], count: usize) -> Result<Vec<u8>, All
 
 #[test]
 fn refuses_items(rt: HostRuntime) -> Result<(), Fail> {
-    let texts: [(&[u8], u32, u32); 24] = [
+    let texts: [(&[u8], u32, u32); 25] = [
         (b"", 1, 1),
         (b"satisfy", 1, 8),
         (b"satisfy; ;", 1, 10),
@@ -51,6 +51,7 @@ fn refuses_items(rt: HostRuntime) -> Result<(), Fail> {
         (b"var x : real 0..; satisfy;", 1, 17),
         (b"var x : set 0..5\nsatisfy;", 2, 1),
         (b"post ; satisfy;", 1, 6),
+        (b"var x[I, J, ] : set 0..1; satisfy;", 1, 13),
     ];
     for (text, line, column) in texts {
         let found = is_bad_at(rt.alloc(), text, line, column);
@@ -87,7 +88,7 @@ fn refuses_goals(rt: HostRuntime) -> Result<(), Fail> {
 
 #[test]
 fn refuses_binders(rt: HostRuntime) -> Result<(), Fail> {
-    let texts: [(&[u8], u32, u32); 9] = [
+    let texts: [(&[u8], u32, u32); 10] = [
         (b"post forall 3 in I : x <= 1; satisfy;", 1, 13),
         (b"post forall i = I : x <= 1; satisfy;", 1, 15),
         (b"post forall i in 0..1 : x <= 1; satisfy;", 1, 18),
@@ -105,6 +106,11 @@ fn refuses_binders(rt: HostRuntime) -> Result<(), Fail> {
             1,
             30,
         ),
+        (
+            b"post forall i in I if i <= 1 and i > 1 and i >= 1 and i = 1 and : x <= 1; satisfy;",
+            1,
+            65,
+        ),
     ];
     for (text, line, column) in texts {
         let found = is_bad_at(rt.alloc(), text, line, column);
@@ -115,7 +121,7 @@ fn refuses_binders(rt: HostRuntime) -> Result<(), Fail> {
 
 #[test]
 fn refuses_expressions(rt: HostRuntime) -> Result<(), Fail> {
-    let texts: [(&[u8], u32, u32); 14] = [
+    let texts: [(&[u8], u32, u32); 16] = [
         (b"post x < 3; satisfy;", 1, 8),
         (b"post x != 3; satisfy;", 1, 8),
         (b"post x <= 1 >= 2; satisfy;", 1, 13),
@@ -130,6 +136,8 @@ fn refuses_expressions(rt: HostRuntime) -> Result<(), Fail> {
         (b"post sum(x ) <= 1; satisfy;", 1, 12),
         (b"post sum(x for i in I ; satisfy;", 1, 23),
         (b"minimise 1x;", 1, 11),
+        (b"post x - <= 1; satisfy;", 1, 10),
+        (b"post x = = 1; satisfy;", 1, 10),
     ];
     for (text, line, column) in texts {
         let found = is_bad_at(rt.alloc(), text, line, column);
@@ -140,7 +148,7 @@ fn refuses_expressions(rt: HostRuntime) -> Result<(), Fail> {
 
 #[test]
 fn refuses_formulas(rt: HostRuntime) -> Result<(), Fail> {
-    let texts: [(&[u8], u32, u32); 11] = [
+    let texts: [(&[u8], u32, u32); 12] = [
         (b"post logic x <= 1; satisfy;", 1, 12),
         (b"post logic [x < 1]; satisfy;", 1, 15),
         (b"post logic [x = 1 ; satisfy;", 1, 19),
@@ -156,6 +164,11 @@ fn refuses_formulas(rt: HostRuntime) -> Result<(), Fail> {
         ),
         (b"post logic [x = 1] or or [y = 1]; satisfy;", 1, 23),
         (b"post logic [x = 1] and ; satisfy;", 1, 24),
+        (
+            b"post logic [x <= 1] and [x >= 1] and [x != 1] and ; satisfy;",
+            1,
+            51,
+        ),
     ];
     for (text, line, column) in texts {
         let found = is_bad_at(rt.alloc(), text, line, column);
@@ -194,7 +207,7 @@ fn refuses_constraints(rt: HostRuntime) -> Result<(), Fail> {
 
 #[test]
 fn refuses_resources(rt: HostRuntime) -> Result<(), Fail> {
-    let texts: [(&[u8], u32, u32); 12] = [
+    let texts: [(&[u8], u32, u32); 13] = [
         (b"post cumulative(2; s, 1 ; t, 1, 1); satisfy;", 1, 25),
         (b"post cumulative(2; s, 1, 1 when s = 1); satisfy;", 1, 33),
         (b"post disjunctive(s ; t, 2); satisfy;", 1, 20),
@@ -215,6 +228,7 @@ fn refuses_resources(rt: HostRuntime) -> Result<(), Fail> {
             1,
             43,
         ),
+        (b"post disjunctive(s, 2; t, 2; ); satisfy;", 1, 30),
     ];
     for (text, line, column) in texts {
         let found = is_bad_at(rt.alloc(), text, line, column);
@@ -225,7 +239,7 @@ fn refuses_resources(rt: HostRuntime) -> Result<(), Fail> {
 
 #[test]
 fn refuses_tags(rt: HostRuntime) -> Result<(), Fail> {
-    let texts: [(&[u8], u32, u32); 7] = [
+    let texts: [(&[u8], u32, u32); 10] = [
         (b"post x <= 1 infer all; satisfy;", 1, 19),
         (b"post x <= 1 relax full; satisfy;", 1, 19),
         (b"post x <= 1 branch x; satisfy;", 1, 20),
@@ -233,6 +247,21 @@ fn refuses_tags(rt: HostRuntime) -> Result<(), Fail> {
         (b"post x <= 1 split first; satisfy;", 1, 19),
         (b"post x <= 1 sub ; satisfy;", 1, 17),
         (b"post x <= 1 sub 2 3; satisfy;", 1, 19),
+        (
+            b"post x <= 1 infer none relax on pick first split half half; satisfy;",
+            1,
+            55,
+        ),
+        (
+            b"post x <= 1 infer bounds relax none pick small split least least; satisfy;",
+            1,
+            60,
+        ),
+        (
+            b"post x <= 1 infer full pick point split most most; satisfy;",
+            1,
+            46,
+        ),
     ];
     for (text, line, column) in texts {
         let found = is_bad_at(rt.alloc(), text, line, column);

@@ -1,11 +1,7 @@
-#!/usr/bin/env python3
-"""Prints the rows of the tables in crates/sm_frac/src/tests.rt, computed by unbounded integers.
-
-Run: python3 bench/fraction_table.py
-"""
+"""Fractions in 128 bits by unbounded integers, and the cases of their table."""
 
 from fractions import Fraction
-from math import ceil, floor, gcd, lcm
+from math import gcd
 
 MAX = 2**127 - 1
 
@@ -29,10 +25,10 @@ def times(left, right):
 
 
 OPERATIONS = {
-    "Plus": plus,
-    "Minus": lambda left, right: plus(left, -right),
-    "Times": times,
-    "Over": lambda left, right: times(left, 1 / right),
+    "plus": plus,
+    "minus": lambda left, right: plus(left, -right),
+    "times": times,
+    "over": lambda left, right: times(left, 1 / right),
 }
 
 LARGE_PRIME = 5 * 10**36 + 1
@@ -42,64 +38,53 @@ while any(LARGE_PRIME % k == 0 for k in range(2, 1000)):
 ROOT = 13043817825332782213  # an odd number near 2^63.5: ROOT * (ROOT - 2) fits, and twice that doesn't
 
 ROWS = [
-    ("Plus", Fraction(1, 3), Fraction(1, 6)),
-    ("Plus", Fraction(2**126), Fraction(2**126)),
-    ("Minus", Fraction(2**126), Fraction(2**126)),
+    ("plus", Fraction(1, 3), Fraction(1, 6)),
+    ("plus", Fraction(2**126), Fraction(2**126)),
+    ("minus", Fraction(2**126), Fraction(2**126)),
     # the ends of the range
-    ("Plus", Fraction(MAX), Fraction(0)),
-    ("Plus", Fraction(MAX - 1), Fraction(1)),
-    ("Plus", Fraction(MAX), Fraction(1)),
-    ("Plus", Fraction(-MAX), Fraction(-1)),
-    ("Minus", Fraction(-MAX), Fraction(1)),
-    ("Minus", Fraction(1 - MAX), Fraction(1)),
-    ("Minus", Fraction(MAX), Fraction(MAX)),
-    ("Plus", Fraction(MAX), Fraction(-MAX)),
+    ("plus", Fraction(MAX), Fraction(0)),
+    ("plus", Fraction(MAX - 1), Fraction(1)),
+    ("plus", Fraction(MAX), Fraction(1)),
+    ("plus", Fraction(-MAX), Fraction(-1)),
+    ("minus", Fraction(-MAX), Fraction(1)),
+    ("minus", Fraction(1 - MAX), Fraction(1)),
+    ("minus", Fraction(MAX), Fraction(MAX)),
+    ("plus", Fraction(MAX), Fraction(-MAX)),
     # one denominator
-    ("Plus", Fraction(1, MAX), Fraction(1, MAX)),
-    ("Plus", Fraction(MAX - 3, MAX - 1), Fraction(1, MAX - 1)),
-    ("Plus", Fraction(MAX, 2), Fraction(1, 2)),
-    ("Minus", Fraction(7, 12), Fraction(1, 12)),
+    ("plus", Fraction(1, MAX), Fraction(1, MAX)),
+    ("plus", Fraction(MAX - 3, MAX - 1), Fraction(1, MAX - 1)),
+    ("plus", Fraction(MAX, 2), Fraction(1, 2)),
+    ("minus", Fraction(7, 12), Fraction(1, 12)),
     # denominators with a large common factor
-    ("Plus", Fraction(1, 6 * LARGE_PRIME), Fraction(1, 10 * LARGE_PRIME)),
-    ("Minus", Fraction(5, 6 * LARGE_PRIME), Fraction(1, 10 * LARGE_PRIME)),
-    ("Plus", Fraction(1, 2**126), Fraction(1, 3 * 2**100)),
-    ("Plus", Fraction(1, 2**100), Fraction(1, 3 * 2**100)),
+    ("plus", Fraction(1, 6 * LARGE_PRIME), Fraction(1, 10 * LARGE_PRIME)),
+    ("minus", Fraction(5, 6 * LARGE_PRIME), Fraction(1, 10 * LARGE_PRIME)),
+    ("plus", Fraction(1, 2**126), Fraction(1, 3 * 2**100)),
+    ("plus", Fraction(1, 2**100), Fraction(1, 3 * 2**100)),
     # out of range over the common denominator, and in range in lowest terms
-    ("Plus", Fraction(1, 2 * ROOT), Fraction(1, 2 * (ROOT - 2))),
-    ("Plus", Fraction(2**126, 3), Fraction(-(2**126), 5)),
+    ("plus", Fraction(1, 2 * ROOT), Fraction(1, 2 * (ROOT - 2))),
+    ("plus", Fraction(2**126, 3), Fraction(-(2**126), 5)),
     # 64 bits and one more
-    ("Plus", Fraction(2**63 - 1, 2**63 - 2), Fraction(2**63 - 2, 2**63 - 1)),
-    ("Times", Fraction(-(2**63)), Fraction(2**63)),
-    ("Times", Fraction(2**63, 2**64 - 1), Fraction(2**64 - 1, 2**62)),
+    ("plus", Fraction(2**63 - 1, 2**63 - 2), Fraction(2**63 - 2, 2**63 - 1)),
+    ("times", Fraction(-(2**63)), Fraction(2**63)),
+    ("times", Fraction(2**63, 2**64 - 1), Fraction(2**64 - 1, 2**62)),
     # products
-    ("Times", Fraction(2**64), Fraction(2**63)),
-    ("Times", Fraction(-(2**64)), Fraction(2**63)),
-    ("Times", Fraction(1, 2**64), Fraction(1, 2**63)),
-    ("Times", Fraction(2**126, 3), Fraction(3, 2**125)),
-    ("Times", Fraction(MAX, MAX - 1), Fraction(MAX - 1, MAX)),
-    ("Times", Fraction(MAX), Fraction(-1)),
-    ("Times", Fraction(0), Fraction(MAX, 2)),
-    ("Times", Fraction(7 * 2**80, 9 * 5**20), Fraction(27 * 5**30, 2**90)),
+    ("times", Fraction(2**64), Fraction(2**63)),
+    ("times", Fraction(-(2**64)), Fraction(2**63)),
+    ("times", Fraction(1, 2**64), Fraction(1, 2**63)),
+    ("times", Fraction(2**126, 3), Fraction(3, 2**125)),
+    ("times", Fraction(MAX, MAX - 1), Fraction(MAX - 1, MAX)),
+    ("times", Fraction(MAX), Fraction(-1)),
+    ("times", Fraction(0), Fraction(MAX, 2)),
+    ("times", Fraction(7 * 2**80, 9 * 5**20), Fraction(27 * 5**30, 2**90)),
     # quotients
-    ("Over", Fraction(1), Fraction(-MAX)),
-    ("Over", Fraction(1, MAX), Fraction(2)),
-    ("Over", Fraction(MAX, 3), Fraction(MAX, 2)),
-    ("Over", Fraction(-MAX, 2), Fraction(-1, 2)),
-    ("Over", Fraction(0), Fraction(-5, 7)),
+    ("over", Fraction(1), Fraction(-MAX)),
+    ("over", Fraction(1, MAX), Fraction(2)),
+    ("over", Fraction(MAX, 3), Fraction(MAX, 2)),
+    ("over", Fraction(-MAX, 2), Fraction(-1, 2)),
+    ("over", Fraction(0), Fraction(-5, 7)),
 ]
 
-
-def parts(number):
-    return f"({number.numerator}, {number.denominator})"
-
-
-for operation, left, right in ROWS:
-    result = OPERATIONS[operation](left, right)
-    outcome = "None" if result is None else f"Some({parts(result)})"
-    print(f"(Op::{operation}, {parts(left)}, {parts(right)}, {outcome}),")
-
-print("\ncomparisons")
-for left, right in [
+COMPARED = [
     (Fraction(MAX, MAX - 1), Fraction(MAX - 1, MAX - 2)),
     (Fraction(MAX - 1, MAX - 2), Fraction(MAX, MAX - 1)),
     (Fraction(-MAX, MAX - 1), Fraction(1 - MAX, MAX - 2)),
@@ -107,12 +92,9 @@ for left, right in [
     (Fraction(-MAX, 2), Fraction(1, MAX)),
     (Fraction(0), Fraction(-1, MAX)),
     (Fraction(1, 3), Fraction(1, 2)),
-]:
-    order = "Less" if left < right else "Greater" if left > right else "Equal"
-    print(f"({parts(left)}, {parts(right)}, Ordering::{order}),")
+]
 
-print("\nfloor and ceil")
-for number in [
+ROUNDED = [
     Fraction(7, 2),
     Fraction(-7, 2),
     Fraction(1, MAX),
@@ -121,11 +103,10 @@ for number in [
     Fraction(-MAX, 2),
     Fraction(-MAX),
     Fraction(0),
-]:
-    print(f"({parts(number)}, {floor(number)}, {ceil(number)}),")
+]
 
-print("\nleast common multiples")
+# numerators and denominators, in lowest terms and in range or not
+PARTS = [(0, 1), (-3, 2), (MAX, MAX - 1), (-MAX, 1), (2, 4), (0, 2), (1, 0), (1, -1), (-(2**127), 1), (MAX, MAX)]
+
 LIMIT = 2**52
-for left, right in [(LIMIT, 1), (LIMIT, LIMIT), (6, 4), (2**26 + 1, 2**26 - 1), (2**26 + 1, 2**26), (2**51, 3)]:
-    multiple = lcm(left, right)
-    print(f"({left}, {right}, {f'Some({multiple})' if multiple <= LIMIT else 'None'}),")
+MULTIPLES = [(LIMIT, 1), (LIMIT, LIMIT), (6, 4), (2**26 + 1, 2**26 - 1), (2**26 + 1, 2**26), (2**51, 3)]

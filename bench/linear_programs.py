@@ -21,7 +21,8 @@ MAIN = """\
 #![tactic(auto)]
 
 USES
-use sm_lp::{LpRow, Program, is_solvable};
+use sm_certificate::{LpRow, Program, is_solvable};
+use sqlite_items::Items;
 use std::alloc::Global;
 use std::io;
 use std::time::Instant;
@@ -52,12 +53,12 @@ fn row_of(alloc: Global, line: &str) -> Result<LpRow, io::Error> {
             },
         }
     }
-    Ok(LpRow { terms, equal, bound })
+    Ok(LpRow { terms: Items::from_vec(terms), equal, bound })
 }
 
 fn cost_at(program: &Program, point: &[i128]) -> i128 {
     let mut sum: i128 = 0;
-    for (number, value) in program.cost.iter().zip(point.iter()) {
+    for (number, value) in program.cost.as_slice().iter().zip(point.iter()) {
         sum = sum.wrapping_add((*number as i128).wrapping_mul(*value));
     }
     sum
@@ -77,7 +78,11 @@ fn main(rt: HostRuntime) -> io::Result<()> {
             None => rows.push(row_of(rt.alloc(), line)?)?,
         }
     }
-    let program = Program { columns, rows, cost };
+    let program = Program {
+        columns: Items::from_vec(columns),
+        rows: Items::from_vec(rows),
+        cost: Items::from_vec(cost),
+    };
     if !is_solvable(&program) {
         println!(rt; "unsolvable")?;
         return Ok(());
@@ -105,14 +110,14 @@ ARMS = """\
 CALLS = {
     "solve_lp": (
         "sm_lp",
-        ["sm_frac", "sm_lp"],
+        ["sm_frac", "sm_certificate", "sm_lp"],
         "use sm_lp::{LpAnswer, solve_lp};",
         ARMS.replace("FOUND", "LpAnswer").replace("CLOSE", ")") + '        Ok(LpAnswer::Passed { .. }) => println!(rt; "passed {nanos}")?,',
     ),
     "propose": (
         "sm_quick",
-        ["sm_frac", "sm_lp", "sm_quick"],
-        "use sm_lp::Proposal;\nuse sm_quick::propose;",
+        ["sm_frac", "sm_certificate", "sm_quick"],
+        "use sm_certificate::Proposal;\nuse sm_quick::propose;",
         ARMS.replace("FOUND", "Some(Proposal").replace("CLOSE", "))") + '        Ok(None) => println!(rt; "none {nanos}")?,',
     ),
 }
@@ -136,7 +141,7 @@ def build_program(folder, call):
     source.mkdir(parents=True)
     text = MAIN.replace("USES", uses).replace("CALL", call).replace("ARMS", arms)
     (source / "main.rt").write_text(text)
-    lines = [crate_line(name) for name in below] + ["bench_lp: " + " ".join(sorted({"sm_lp", crate}))]
+    lines = [crate_line(name) for name in below] + ["bench_lp: " + " ".join(sorted({"sqlite_items", "sm_certificate", crate}))]
     (folder / "crates.txt").write_text("\n".join(lines) + "\n")
     shutil.copy(TOP / "HANDLES", folder)
     done = subprocess.run(["rt", "run"], cwd=source.parent, stdin=subprocess.DEVNULL, capture_output=True, text=True)

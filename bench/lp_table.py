@@ -1,4 +1,4 @@
-"""Optimal costs of small linear programs, by their vertices in unbounded fractions.
+"""Small linear programs, and their least costs by their vertices in unbounded fractions.
 
 Every vertex of the feasible set is where as many of its bounds are tight as there are columns. The set is bounded, so the
 least cost is that of a vertex, and where no vertex is feasible no point is.

@@ -27,8 +27,6 @@ mod parse;
 mod reader;
 mod sums;
 mod symbol;
-#[cfg(test)]
-mod tests;
 mod token;
 mod tree;
 

@@ -2,16 +2,8 @@
 //! and `simpl check MODEL LOG` says whether a log proves its verdict.
 #![tactic(auto)]
 
-mod checking;
-#[cfg(test)]
-mod log_tests;
-mod run;
-mod stop;
-#[cfg(test)]
-mod tests;
-
-use crate::run::run;
 use sm_base::{DiskShelf, StdSink};
+use sm_commands::run;
 use std::alloc::Global;
 use std::env;
 use std::process::ExitCode;

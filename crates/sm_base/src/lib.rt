@@ -24,6 +24,3 @@ pub use memory::{MemShelf, MemSink, NullSink};
 pub use outside::{DiskShelf, StdSink};
 pub use transfers::{ReadRefusal, WriteFault, put_all, read_all};
 pub use whole::{push_whole, read_whole};
-
-#[cfg(test)]
-mod tests;

@@ -10,8 +10,6 @@ mod build;
 mod clausify;
 mod counts;
 mod formula;
-#[cfg(test)]
-mod tests;
 
 pub use bounds::has_small_bounds;
 pub use clausify::{ClauseRefusal, clauses};

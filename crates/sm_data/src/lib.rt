@@ -11,8 +11,6 @@ mod records;
 mod refusal;
 mod table;
 mod tables;
-#[cfg(test)]
-mod tests;
 
 pub use refusal::{Counted, DataCause, DataRefusal};
 pub use table::Table;

@@ -12,8 +12,6 @@ mod linear;
 mod literal;
 mod solve;
 mod tags;
-#[cfg(test)]
-mod tests;
 mod var;
 
 pub use assignment::{Assignment, is_assignment};

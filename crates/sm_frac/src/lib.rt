@@ -11,8 +11,6 @@ mod multiple;
 mod operation;
 mod range;
 mod rounding;
-#[cfg(test)]
-mod tests;
 
 pub use compare::compare_ratios;
 pub use divisor::gcd;

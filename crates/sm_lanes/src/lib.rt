@@ -12,6 +12,3 @@ pub use numbers::{add_over, first_above, max_over};
 
 /// How many words or numbers one vector holds.
 const LANES: usize = 8;
-
-#[cfg(test)]
-mod tests;

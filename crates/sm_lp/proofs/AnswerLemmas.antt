@@ -13,22 +13,22 @@ use Rattle.sm_frac.specs.declared.operation.Op.{Op}
 use Rattle.sm_frac.specs.declared.operation.Op.TheVariants.{Plus, Minus, Times, Over, Lcm}
 use Rattle.sm_frac.proofs.OperationLemmas.{frac_same, abs_above}
 use Rattle.sm_frac.proofs.CommonDenominator.{fraction_le, whole_over, whole_le}
-use Rattle.sm_lp.specs.declared.program.Program.{Program}
-use Rattle.sm_lp.specs.declared.program.LpRow.{LpRow}
-use Rattle.sm_lp.specs.Numbers.{number_at}
-use Rattle.sm_lp.specs.Conditions.{IsSolvable}
+use Rattle.sm_certificate.specs.declared.program.Program.{Program}
+use Rattle.sm_certificate.specs.declared.program.LpRow.{LpRow}
+use Rattle.sm_certificate.specs.Numbers.{number_at}
+use Rattle.sm_certificate.specs.Conditions.{IsSolvable}
 use Rattle.sm_lp.specs.Dictionary.{Dictionary, pivot, IsProper}
 use Rattle.sm_lp.specs.Moves.{IsMove, IsOptimal, IsInfeasible}
 use Rattle.sm_lp.specs.Rule.{place}
-use Rattle.sm_lp.specs.Program.{column_count, low, high, cost, row_coefficient, row_bound, row_value, SatisfiesRow, Satisfies, cost_of, AreMultipliers, bound_of, point_value}
-use Rattle.sm_lp.specs.First.{slack_count, number_count}
+use Rattle.sm_certificate.specs.Program.{column_count, low, high, cost, row_coefficient, row_bound, row_value, SatisfiesRow, Satisfies, cost_of, AreMultipliers, bound_of, point_value}
+use Rattle.sm_certificate.specs.Slacks.{slack_count, number_count}
 use Rattle.sm_lp.specs.Steps.{column_value, IsDenominator, IsLeastCommon, JoinsBy, IsPassingStep, IsPivotStep, IsEndStep, Stands}
 use Rattle.sm_lp.specs.Path.{successor, IsOnPath, numbers_below, basis_of}
 use Rattle.sm_lp.specs.Answer.{goal_coefficient, turned_coefficient, multipliers_of, row_multipliers, IsOptimum, IsContradiction}
 use Rattle.sm_lp.specs.Ending.{AreValues, IsValuePassed, IsCommon, IsCommonPassed, AreBoxed, denominator_at, slack_of}
-use Rattle.sm_lp.proofs.Totals.{total_same}
+use Rattle.sm_certificate.proofs.Totals.{total_same}
 use Rattle.sm_lp.proofs.CommonLemmas.{common_same}
-use Rattle.sm_lp.proofs.FineLemmas.{zero_frac}
+use Rattle.sm_certificate.proofs.FineLemmas.{zero_frac}
 use Rattle.sm_lp.proofs.NextLemmas.{move_next, optimal_next, infeasible_next}
 use Rattle.sm_lp.proofs.FirstLemmas.{IsTracked}
 use Rattle.sm_lp.proofs.PathLemmas.{path_stands, no_next}
@@ -37,7 +37,7 @@ use Rattle.sm_lp.proofs.OptimumLemmas.{feasible, bound_is_cost, none_costs_less,
 
 pub ends_ordered : (p : Program) → IsSolvable p → (j : ℕ) → j < column_count p → low p j ≤ℚ high p j
 unfolding low high
-ends_ordered p s j l = whole_le (get_or p.columns.items j (pos 0, pos 0)).0 (get_or p.columns.items j (pos 0, pos 0)).1 (s.boxes j (pos 0, pos 0) l).ordered
+ends_ordered p s j l = whole_le (get_or p.columns j (pos 0, pos 0)).0 (get_or p.columns j (pos 0, pos 0)).1 (s.boxes j (pos 0, pos 0) l).ordered
 
 pub basis_is : (h : ℕ → ℕ) (l height count n : ℕ) (items : List ℕ) → l ≡ height → count ≡ n → items ≡ numbers_below (λ y. nat_lt (place h y l) l) count → items ≡ numbers_below (λ y. nat_lt (place h y height) height) n
 basis_is h l height count n items el en is = subst (λ (k : ℕ). items ≡ numbers_below (λ y. nat_lt (place h y height) height) k) en (subst (λ (k : ℕ). items ≡ numbers_below (λ y. nat_lt (place h y k) k) count) el is)
@@ -67,7 +67,7 @@ values_boxed p d values s t o v = record {
       let box = s.boxes j (pos 0, pos 0) inside in
       let is : column_value p d j ≡ value_of f = sym (v.exact j inside) ∙ get_or-map value_of values j z zero_ℚ l in
       let all = feasible p d t o in
-      boxed_frac f (get_or p.columns.items j (pos 0, pos 0)).0 (get_or p.columns.items j (pos 0, pos 0)).1 box.least box.greatest (subst (λ (q : ℚ). low p j ≤ℚ q) is (all.least_ends j inside)) (subst (λ (q : ℚ). q ≤ℚ high p j) is (all.greatest_ends j inside));
+      boxed_frac f (get_or p.columns j (pos 0, pos 0)).0 (get_or p.columns j (pos 0, pos 0)).1 box.least box.greatest (subst (λ (q : ℚ). low p j ≤ℚ q) is (all.least_ends j inside)) (subst (λ (q : ℚ). q ≤ℚ high p j) is (all.greatest_ends j inside));
 }
 
 -- ---- points that agree in the columns
@@ -83,7 +83,7 @@ satisfies_moved : (p : Program) (x y : ℕ → ℚ) → ((j : ℕ) → j < colum
 satisfies_moved p x y same h = record {
   least_ends = λ j l. subst (λ (q : ℚ). low p j ≤ℚ q) (same j l) (h.least_ends j l);
   greatest_ends = λ j l. subst (λ (q : ℚ). q ≤ℚ high p j) (same j l) (h.greatest_ends j l);
-  rows = λ k z l. row_moved (column_count p) x y (get_or p.rows.items k z) same (h.rows k z l);
+  rows = λ k z l. row_moved (column_count p) x y (get_or p.rows k z) same (h.rows k z l);
 }
 
 denominator_is : (values : List Frac) (j : ℕ) (x : ℚ) → j < length values → number_at values j ≡ x → IsDenominator x (denominator_at values j)
@@ -108,7 +108,7 @@ optimum p d values denominator point ms s t o v c long exact em =
         above = above;
         long = long ∙ v.long;
         satisfies = satisfies_moved p (column_value p d) x (λ j l. sym (is_value j l)) (feasible p d t o);
-        multipliers_lawful = subst (λ (ys : List ℚ). AreMultipliers p.rows.items ys) (sym em) (goal_lawful p d t o);
+        multipliers_lawful = subst (λ (ys : List ℚ). AreMultipliers p.rows ys) (sym em) (goal_lawful p d t o);
         bound = sym costs ∙ bound_is_cost p d t o order ∙ ap (bound_of p (cost p)) (sym em);
       };
       least = λ z sz. subst (λ (q : ℚ). q ≤ℚ cost_of p z) costs (none_costs_less p d t o order z sz);
@@ -129,7 +129,7 @@ contradiction p d r ms s t o em =
     let order = ends_ordered p s in
     record {
       shows = record {
-        multipliers_lawful = subst (λ (ys : List ℚ). AreMultipliers p.rows.items ys) (sym em) (turned_lawful p d t r o);
+        multipliers_lawful = subst (λ (ys : List ℚ). AreMultipliers p.rows ys) (sym em) (turned_lawful p d t r o);
         positive = subst (λ (ys : List ℚ). zero_ℚ <ℚ bound_of p (λ _. zero_ℚ) ys) (sym em) (bound_positive p d t r o order);
       };
       none = none_satisfies p d t r o order;
@@ -190,13 +190,13 @@ infeasible_exact p d r h o =
     path_stands p d h last (infeasible_stands p d r t last o)
 
 -- ---- the multipliers as the code reads them
-pub goal_multipliers : (p : Program) (d : Dictionary) (f g : ℕ) (rows : List LpRow) (ms : List ℚ) → f ≡ column_count p → g ≡ slack_count p → rows ≡ p.rows.items → ms ≡ row_multipliers rows (slack_of f g d None) f → ms ≡ multipliers_of p (goal_coefficient p d)
+pub goal_multipliers : (p : Program) (d : Dictionary) (f g : ℕ) (rows : List LpRow) (ms : List ℚ) → f ≡ column_count p → g ≡ slack_count p → rows ≡ p.rows → ms ≡ row_multipliers rows (slack_of f g d None) f → ms ≡ multipliers_of p (goal_coefficient p d)
 unfolding goal_coefficient
-goal_multipliers p d f g rows ms ef eg er is = is ∙ ap (λ (xs : List LpRow). row_multipliers xs (slack_of f g d None) f) er ∙ ap (λ (x : ℕ). row_multipliers p.rows.items (slack_of x g d None) x) ef ∙ ap (λ (x : ℕ). row_multipliers p.rows.items (slack_of (column_count p) x d None) (column_count p)) eg
+goal_multipliers p d f g rows ms ef eg er is = is ∙ ap (λ (xs : List LpRow). row_multipliers xs (slack_of f g d None) f) er ∙ ap (λ (x : ℕ). row_multipliers p.rows (slack_of x g d None) x) ef ∙ ap (λ (x : ℕ). row_multipliers p.rows (slack_of (column_count p) x d None) (column_count p)) eg
 
-pub turned_multipliers : (p : Program) (d : Dictionary) (f g r : ℕ) (rows : List LpRow) (ms : List ℚ) → f ≡ column_count p → rows ≡ p.rows.items → ms ≡ row_multipliers rows (slack_of f g d (Some r)) f → ms ≡ multipliers_of p (turned_coefficient p d r)
+pub turned_multipliers : (p : Program) (d : Dictionary) (f g r : ℕ) (rows : List LpRow) (ms : List ℚ) → f ≡ column_count p → rows ≡ p.rows → ms ≡ row_multipliers rows (slack_of f g d (Some r)) f → ms ≡ multipliers_of p (turned_coefficient p d r)
 unfolding turned_coefficient
-turned_multipliers p d f g r rows ms ef er is = is ∙ ap (λ (xs : List LpRow). row_multipliers xs (slack_of f g d (Some r)) f) er ∙ ap (λ (x : ℕ). row_multipliers p.rows.items (slack_of x g d (Some r)) x) ef
+turned_multipliers p d f g r rows ms ef er is = is ∙ ap (λ (xs : List LpRow). row_multipliers xs (slack_of f g d (Some r)) f) er ∙ ap (λ (x : ℕ). row_multipliers p.rows (slack_of x g d (Some r)) x) ef
 
 pub optimal_here : (p : Program) (d : Dictionary) (f g : ℕ) → f ≡ column_count p → g ≡ slack_count p → IsOptimal d f g → IsOptimal d (column_count p) (slack_count p)
 optimal_here p d f g ef eg o = subst (λ (x : ℕ). IsOptimal d x (slack_count p)) ef (subst (λ (x : ℕ). IsOptimal d f x) eg o)

@@ -7,16 +7,18 @@ use Rattle.std.proofs.Math.Logic.{⊎_elim}
 use Rattle.sm_frac.specs.Rational.{ℚ, ◌+ℚ◌, ◌*ℚ◌, ◌-ℚ◌, neg_ℚ, zero_ℚ, one_ℚ}
 use Rattle.sm_frac.proofs.RationalRing.{ring}
 use Rattle.sm_frac.proofs.OperationLemmas.{fraction_cross}
-use Rattle.sm_lp.specs.declared.program.Program.{Program}
-use Rattle.sm_lp.specs.declared.program.LpRow.{LpRow}
-use Rattle.sm_lp.specs.Dictionary.{Dictionary, total, Solves, value_at}
+use Rattle.sm_certificate.specs.declared.program.Program.{Program}
+use Rattle.sm_certificate.specs.declared.program.LpRow.{LpRow}
+use Rattle.sm_lp.specs.Dictionary.{Dictionary, Solves, value_at}
+use Rattle.sm_certificate.specs.Totals.{total}
 use Rattle.sm_lp.specs.Moves.{IsInfeasible}
-use Rattle.sm_lp.specs.Program.{column_count, low}
-use Rattle.sm_lp.specs.First.{Half, halves, half_count, half_at, slack_count, number_count, upper_half, turned_half}
+use Rattle.sm_certificate.specs.Program.{column_count, low}
+use Rattle.sm_certificate.specs.Slacks.{Half, halves, half_count, half_at, slack_count, number_count, upper_half, turned_half}
 use Rattle.sm_lp.specs.Ending.{AreApart, slack_of}
-use Rattle.sm_lp.proofs.Totals.{total_same, total-scaled}
-use Rattle.sm_lp.proofs.Signs.{not_zero}
-use Rattle.sm_lp.proofs.Points.{column_point, column_point_nonbasic, column_point_basic, column_point_solves, unit_at, unit_off, missing, choose_not}
+use Rattle.sm_certificate.proofs.Totals.{total_same, total-scaled}
+use Rattle.sm_certificate.proofs.Signs.{not_zero}
+use Rattle.sm_lp.proofs.Points.{column_point, column_point_nonbasic, column_point_basic, column_point_solves, unit_at, unit_off, missing}
+use Rattle.sm_certificate.proofs.Totals.{choose_not}
 use Rattle.sm_lp.proofs.FirstLemmas.{balances, IsTracked}
 use Rattle.sm_lp.proofs.Combine.{half_of}
 
@@ -165,16 +167,16 @@ module _ (p : Program) (d : Dictionary) (t : IsTracked p d) where
       (t.occurs z hz))
       (t.occurs y hy)
 
-  apart_goal : AreApart p.rows.items (slack_of (column_count p) (slack_count p) d None) (column_count p)
+  apart_goal : AreApart p.rows (slack_of (column_count p) (slack_count p) d None) (column_count p)
   unfolding Cancel
-  apart_goal = apart_list p.rows.items (slack_of (column_count p) (slack_count p) d None) (column_count p) (λ i l h. goal_apart (column_count p + i) (column_count p + suc i) (λ e. absurd (omega arith)) (omega arith) (omega arith) (halves_cancel i l h))
+  apart_goal = apart_list p.rows (slack_of (column_count p) (slack_count p) d None) (column_count p) (λ i l h. goal_apart (column_count p + i) (column_count p + suc i) (λ e. absurd (omega arith)) (omega arith) (omega arith) (halves_cancel i l h))
 
-  apart_row : (r : ℕ) → IsInfeasible d (column_count p) (slack_count p) r → AreApart p.rows.items (slack_of (column_count p) (slack_count p) d (Some r)) (column_count p)
+  apart_row : (r : ℕ) → IsInfeasible d (column_count p) (slack_count p) r → AreApart p.rows (slack_of (column_count p) (slack_count p) d (Some r)) (column_count p)
   unfolding Cancel Turned
-  apart_row r o = apart_list p.rows.items (slack_of (column_count p) (slack_count p) d (Some r)) (column_count p) (λ i l h. row_apart r (column_count p + i) (column_count p + suc i) o (λ e. absurd (omega arith)) (omega arith) (omega arith) (halves_cancel i l h))
+  apart_row r o = apart_list p.rows (slack_of (column_count p) (slack_count p) d (Some r)) (column_count p) (λ i l h. row_apart r (column_count p + i) (column_count p + suc i) o (λ e. absurd (omega arith)) (omega arith) (omega arith) (halves_cancel i l h))
 
-pub goal_halves_apart : (p : Program) (d : Dictionary) (f g : ℕ) → f ≡ column_count p → g ≡ slack_count p → IsTracked p d → AreApart p.rows.items (slack_of f g d None) f
-goal_halves_apart p d f g ef eg t = subst (λ (x : ℕ). AreApart p.rows.items (slack_of x g d None) x) (sym ef) (subst (λ (x : ℕ). AreApart p.rows.items (slack_of (column_count p) x d None) (column_count p)) (sym eg) (apart_goal p d t))
+pub goal_halves_apart : (p : Program) (d : Dictionary) (f g : ℕ) → f ≡ column_count p → g ≡ slack_count p → IsTracked p d → AreApart p.rows (slack_of f g d None) f
+goal_halves_apart p d f g ef eg t = subst (λ (x : ℕ). AreApart p.rows (slack_of x g d None) x) (sym ef) (subst (λ (x : ℕ). AreApart p.rows (slack_of (column_count p) x d None) (column_count p)) (sym eg) (apart_goal p d t))
 
-pub row_halves_apart : (p : Program) (d : Dictionary) (f g r : ℕ) → f ≡ column_count p → g ≡ slack_count p → IsTracked p d → IsInfeasible d (column_count p) (slack_count p) r → AreApart p.rows.items (slack_of f g d (Some r)) f
-row_halves_apart p d f g r ef eg t o = subst (λ (x : ℕ). AreApart p.rows.items (slack_of x g d (Some r)) x) (sym ef) (subst (λ (x : ℕ). AreApart p.rows.items (slack_of (column_count p) x d (Some r)) (column_count p)) (sym eg) (apart_row p d t r o))
+pub row_halves_apart : (p : Program) (d : Dictionary) (f g r : ℕ) → f ≡ column_count p → g ≡ slack_count p → IsTracked p d → IsInfeasible d (column_count p) (slack_count p) r → AreApart p.rows (slack_of f g d (Some r)) f
+row_halves_apart p d f g r ef eg t o = subst (λ (x : ℕ). AreApart p.rows (slack_of x g d (Some r)) x) (sym ef) (subst (λ (x : ℕ). AreApart p.rows (slack_of (column_count p) x d (Some r)) (column_count p)) (sym eg) (apart_row p d t r o))

@@ -4,7 +4,7 @@ use Rattle.std.proofs.lemmas.Bool.Decides.{nat_tests}
 use Rattle.std.proofs.Math.Nat.{mul-le-mul_right}
 use Rattle.sm_frac.specs.Rational.{zero_ℚ}
 use Rattle.sm_frac.specs.declared.fraction.Frac.{Frac}
-use Rattle.sm_lp.specs.Numbers.{number_at}
+use Rattle.sm_certificate.specs.Numbers.{number_at}
 use Rattle.sm_lp.specs.Table.{cell_entry}
 
 pub cell_read : (h w : ℕ) (cells : List Frac) (i j : ℕ) → i < h → j < w → cell_entry h w cells i j ≡ number_at cells (i * w + j)

@@ -6,10 +6,11 @@ use Rattle.std.proofs.lemmas.Bool.{cases_eq, cases_order}
 use Rattle.std.proofs.Math.Logic.{⊎_elim}
 use Rattle.sm_frac.specs.Rational.{ℚ, ◌+ℚ◌, ◌*ℚ◌, neg_ℚ, zero_ℚ, one_ℚ, is_nonnegative-fraction}
 use Rattle.sm_frac.proofs.RationalRing.{ring, add_right_cancel, neg_cancel}
-use Rattle.sm_lp.specs.Dictionary.{total, Dictionary, Solves, IsProper}
-use Rattle.sm_lp.proofs.Totals.{total_split, without, without_at, without_off}
+use Rattle.sm_certificate.specs.Totals.{total}
+use Rattle.sm_lp.specs.Dictionary.{Dictionary, Solves, IsProper}
+use Rattle.sm_certificate.proofs.Totals.{total_split, without, without_at, without_off}
 use Rattle.sm_lp.proofs.Points.{column_point, column_point_nonbasic, column_point_basic, column_point_solves, unit, unit_at, unit_off}
-use Rattle.sm_lp.proofs.Signs.{AtLeast, Below, AtMost, Above, at_most, product_at_least, zero_at_least, moved, product_at_most, product_below, above_below, total_below, total_at_least, total_turned}
+use Rattle.sm_certificate.proofs.Signs.{AtLeast, Below, AtMost, Above, at_most, product_at_least, zero_at_least, moved, product_at_most, product_below, above_below, total_below, total_at_least, total_turned}
 
 -- the number x is one of those of d
 abbrev pub Occurs : Dictionary → ℕ → Type 0

@@ -1,30 +1,23 @@
 -- From the coefficients of a dictionary's row to the bound of its multipliers.
-use Rattle.std.proofs.Common.{◌≡◌, ℕ, suc, zero, ◌<◌, ◌+◌, List, [], ◌∷◌, length, get_or, sym, ap, ◌∙◌, refl, arith}
+use Rattle.std.proofs.Common.{◌≡◌, ℕ, suc, ◌<◌, ◌+◌, List, [], ◌∷◌, length, get_or, sym, ap, ◌∙◌, refl, arith}
 use Rattle.std.specs.Prelude.{if◌then◌else◌, Bool, true, false, nat_lt}
 use Rattle.std.proofs.lemmas.Bool.Decides.{nat_tests}
 use Rattle.sm_frac.specs.Rational.{ℚ, ◌+ℚ◌, ◌*ℚ◌, ◌-ℚ◌, neg_ℚ, zero_ℚ, one_ℚ, ◌≤ℚ◌}
 use Rattle.sm_frac.proofs.RationalRing.{ring}
-use Rattle.sm_lp.specs.declared.program.Program.{Program}
-use Rattle.sm_lp.specs.declared.program.LpRow.{LpRow}
-use Rattle.sm_lp.specs.Signs.{AtLeast}
-use Rattle.sm_lp.specs.Dictionary.{total, Solves}
-use Rattle.sm_lp.specs.Program.{column_count, low, high, row_coefficient, row_bound, AreMultipliers, combined_coefficient, combined_bound, bound_of}
-use Rattle.sm_lp.specs.First.{Half, halves, half_count, half_at, slack_count, number_count, first, upper_half, turned_half}
+use Rattle.sm_certificate.specs.declared.program.Program.{Program}
+use Rattle.sm_certificate.specs.declared.program.LpRow.{LpRow}
+use Rattle.sm_certificate.specs.Signs.{AtLeast}
+use Rattle.sm_certificate.specs.Totals.{total}
+use Rattle.sm_lp.specs.Dictionary.{Solves}
+use Rattle.sm_certificate.specs.Program.{column_count, low, high, row_coefficient, row_bound, AreMultipliers, combined_coefficient, combined_bound, bound_of}
+use Rattle.sm_certificate.specs.Slacks.{Half, halves, half_count, half_at, slack_count, number_count, upper_half, turned_half}
+use Rattle.sm_lp.specs.First.{first}
 use Rattle.sm_lp.specs.Answer.{row_multipliers}
-use Rattle.sm_lp.proofs.Totals.{total_same, total-scaled, total-sum}
+use Rattle.sm_certificate.proofs.Totals.{total_same, total-scaled, total-sum, total_front}
 use Rattle.sm_lp.proofs.Points.{point, point_nonbasic, point_solves, unit, unit_at, unit_off, total_one}
 use Rattle.sm_lp.proofs.Multipliers.{total-add}
 use Rattle.sm_lp.proofs.FirstLemmas.{balances, first_proper, first_nonbasic, first_constant, first_width}
-use Rattle.sm_lp.proofs.Duality.{bound_reached}
-
--- a sum with its first term in front
-pub total_front : (n : ℕ) (f : ℕ → ℚ) → total (suc n) f ≡ f 0 +ℚ total n (λ i. f (suc i))
-unfolding total
-total_front zero f = simp ring
-total_front (suc n) f = ap (λ (x : ℚ). x +ℚ f (suc n)) (total_front n f) ∙ grouped (f 0) (total n (λ i. f (suc i))) (f (suc n))
-  where
-    grouped : (x y z : ℚ) → x +ℚ y +ℚ z ≡ x +ℚ (y +ℚ z)
-    grouped x y z = simp ring
+use Rattle.sm_certificate.proofs.Duality.{bound_reached}
 
 -- ---- the halves of the rows
 abbrev pub half_of : List Half → ℕ → Half
@@ -257,14 +250,14 @@ module _ (p : Program) (target : ℕ → ℚ) (k : ℚ) (u : ℕ → ℚ) (h : H
           tidy a b c = simp ring
 
   -- the bound of the multipliers is at least the constant
-  pub sum_reached : ((j : ℕ) → j < column_count p → low p j ≤ℚ high p j) → ((y : ℕ) → AtLeast (u y)) → k ≤ℚ bound_of p target (row_multipliers p.rows.items u (column_count p))
+  pub sum_reached : ((j : ℕ) → j < column_count p → low p j ≤ℚ high p j) → ((y : ℕ) → AtLeast (u y)) → k ≤ℚ bound_of p target (row_multipliers p.rows u (column_count p))
   unfolding y_of w_of
   sum_reached order sign =
       let n = column_count p in
-      let ys = row_multipliers p.rows.items u n in
+      let ys = row_multipliers p.rows u n in
       bound_reached p target u w_of ys k order (λ j l. sign j) (λ j l. sign (n + (half_count p + j)))
-      (λ j l. ap (λ (q : ℚ). q -ℚ combined_coefficient p.rows.items ys j) (column_sum j l) ∙ ap (λ (q : ℚ). u j +ℚ total (half_count p) (λ i. y_of i *ℚ (half_at p i).coefficient j) -ℚ w_of j -ℚ q) (merged_coefficient p.rows.items u n j) ∙ left (u j) (total (half_count p) (λ i. y_of i *ℚ (half_at p i).coefficient j)) (w_of j))
-      (constant_sum ∙ ap (λ (q : ℚ). q +ℚ total n (λ j. u j *ℚ low p j -ℚ w_of j *ℚ high p j)) (sym (merged_bound p.rows.items u n)))
+      (λ j l. ap (λ (q : ℚ). q -ℚ combined_coefficient p.rows ys j) (column_sum j l) ∙ ap (λ (q : ℚ). u j +ℚ total (half_count p) (λ i. y_of i *ℚ (half_at p i).coefficient j) -ℚ w_of j -ℚ q) (merged_coefficient p.rows u n j) ∙ left (u j) (total (half_count p) (λ i. y_of i *ℚ (half_at p i).coefficient j)) (w_of j))
+      (constant_sum ∙ ap (λ (q : ℚ). q +ℚ total n (λ j. u j *ℚ low p j -ℚ w_of j *ℚ high p j)) (sym (merged_bound p.rows u n)))
     where
       left : (d s w : ℚ) → d +ℚ s -ℚ w -ℚ s ≡ d -ℚ w
       left d s w = simp ring

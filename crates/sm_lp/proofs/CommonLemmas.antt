@@ -18,11 +18,11 @@ use Rattle.sm_frac.proofs.OperationLemmas.{abs_above}
 use Rattle.sm_frac.proofs.IntRing.{products}
 use Rattle.std.proofs.Math.Seq.{get_or-append_seam}
 use Rattle.std.proofs.Math.ListN.{get_or-append}
-use Rattle.sm_lp.specs.Numbers.{number_at}
-use Rattle.sm_lp.specs.Program.{point_value}
-use Rattle.sm_lp.proofs.NumberLemmas.{number_read}
+use Rattle.sm_certificate.specs.Numbers.{number_at}
+use Rattle.sm_certificate.specs.Program.{point_value}
+use Rattle.sm_certificate.proofs.NumberLemmas.{number_read}
 use Rattle.sm_lp.specs.Steps.{JoinsBy, IsLeastCommon}
-use Rattle.sm_lp.specs.Table.{IsFine}
+use Rattle.sm_certificate.specs.Fine.{IsFine}
 use Rattle.sm_lp.specs.Ending.{IsJoined, IsJoinPassed, IsCommonPassed, denominator_at}
 
 pub denominator_read : (values : List Frac) (j : ℕ) (v : Frac) → j < length values → v ≡ get_or values j v → denominator_at values j ≡ unsigned_abs v.d

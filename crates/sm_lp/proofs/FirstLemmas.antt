@@ -1,7 +1,7 @@
 -- The first dictionary, its solutions, and those of all dictionaries of the program.
 use Rattle.std.proofs.Common.{◌≡◌, ℕ, suc, zero, ◌<◌, ◌≤◌, ◌+◌, ◌-◌, sym, ap, ◌∙◌, refl, arith, ◌≢◌, subst, inl, inr}
 use Rattle.std.specs.Prelude.{◌⊎◌, ◌==◌, if◌then◌else◌, nat_lt}
-use Rattle.std.proofs.lemmas.Bool.{cases_eq, cases_order}
+use Rattle.std.proofs.lemmas.Bool.{cases_eq}
 use Rattle.std.proofs.lemmas.Bool.Decides.{nat_tests}
 use Rattle.std.proofs.Math.Logic.{⊎_elim}
 use Rattle.sm_frac.specs.Rational.{ℚ, ◌+ℚ◌, ◌*ℚ◌, ◌-ℚ◌, neg_ℚ, zero_ℚ, one_ℚ}
@@ -9,24 +9,23 @@ use Rattle.std.specs.Prelude.{pos}
 use Rattle.std.proofs.lemmas.Int.{ints}
 use Rattle.sm_frac.proofs.OperationLemmas.{fraction_cross}
 use Rattle.sm_frac.proofs.RationalRing.{ring}
-use Rattle.sm_lp.specs.declared.program.Program.{Program}
-use Rattle.sm_lp.specs.Signs.{AtLeast}
-use Rattle.sm_lp.specs.Dictionary.{Dictionary, total, Solves, IsProper, pivot}
+use Rattle.sm_certificate.specs.declared.program.Program.{Program}
+use Rattle.sm_certificate.specs.Signs.{AtLeast}
+use Rattle.sm_lp.specs.Dictionary.{Dictionary, Solves, IsProper, pivot}
+use Rattle.sm_certificate.specs.Totals.{total}
 use Rattle.sm_lp.specs.Moves.{IsGood, IsMove}
 use Rattle.sm_lp.specs.Turn.{HasLeaving}
-use Rattle.sm_lp.specs.Program.{column_count, low, high, cost}
-use Rattle.sm_lp.specs.First.{half_count, half_at, slack_count, number_count, affine, half_entry, end_entry, goal_entry, first_entry, first}
+use Rattle.sm_certificate.specs.Program.{column_count, low, high, cost}
+use Rattle.sm_certificate.specs.Slacks.{half_count, half_at, slack_count, number_count}
+use Rattle.sm_lp.specs.First.{affine, half_entry, end_entry, goal_entry, first_entry, first}
 use Rattle.sm_lp.specs.Path.{IsDictionary, IsReached}
-use Rattle.sm_lp.proofs.Signs.{moved, both_zero}
-use Rattle.sm_lp.proofs.Totals.{total_same, total-zero, total_split, without, without_at, without_off}
+use Rattle.sm_certificate.proofs.Signs.{moved, both_zero}
+use Rattle.sm_certificate.proofs.Totals.{total_same, total-zero, total_split, without, without_at, without_off, low_or_high}
 use Rattle.sm_lp.proofs.Points.{column_point, column_point_nonbasic, column_point_solves, unit_at, unit_off}
 use Rattle.sm_lp.proofs.PivotLemmas.{solves_pivot, solves_before, replaced_off}
 use Rattle.sm_lp.proofs.Clash.{Occurs, point_at_least}
 use Rattle.sm_lp.proofs.Return.{entry_not_zero, good_after, occurs_after}
 use Rattle.sm_lp.proofs.RuleLemmas.{next_moves}
-
-pub low_or_high : (k i : ℕ) → (k < i) ⊎ (i ≤ k)
-low_or_high k i = ⊎_elim (λ (e : k ≡ i). inr (omega arith)) (λ o. ⊎_elim (λ (l : k < i). inl l) (λ (l : i < k). inr (omega arith)) o) (cases_order k i)
 
 pub affine_low : (n : ℕ) (a : ℕ → ℚ) (k : ℚ) (j : ℕ) → j < n → affine n a k j ≡ a j
 unfolding affine

@@ -18,16 +18,16 @@ use Rattle.sm_frac.specs.declared.operation.RangePassed.{RangePassed}
 use Rattle.sm_frac.proofs.FracLemmas.{lowest_whole}
 use Rattle.sm_frac.proofs.OperationLemmas.{frac_same}
 use Rattle.sm_frac.proofs.Multiples.{one_multiple}
-use Rattle.sm_lp.specs.declared.program.Program.{Program}
-use Rattle.sm_lp.specs.Conditions.{IsBox}
+use Rattle.sm_certificate.specs.declared.program.Program.{Program}
+use Rattle.sm_certificate.specs.Conditions.{IsBox}
 use Rattle.sm_lp.specs.Dictionary.{Dictionary}
-use Rattle.sm_lp.specs.Program.{column_count, low}
-use Rattle.sm_lp.specs.Numbers.{number_at}
+use Rattle.sm_certificate.specs.Program.{column_count, low}
+use Rattle.sm_certificate.specs.Numbers.{number_at}
 use Rattle.sm_lp.specs.Steps.{constant_of, column_value, natural_ℚ, JoinsBy}
-use Rattle.sm_lp.specs.Table.{IsFine}
+use Rattle.sm_certificate.specs.Fine.{IsFine}
 use Rattle.sm_lp.specs.Ending.{IsValuePassed, IsJoined, IsJoinPassed}
-use Rattle.sm_lp.proofs.NumberLemmas.{number_at-set_same, number_at-set_other}
-use Rattle.sm_lp.proofs.FineLemmas.{fine_of, fine_moved}
+use Rattle.sm_certificate.proofs.NumberLemmas.{number_at-set_same, number_at-set_other}
+use Rattle.sm_certificate.proofs.FineLemmas.{fine_of, fine_moved}
 
 pub values_more : (p : Program) (d : Dictionary) (j : ℕ) (values : List Frac) (x y z : Frac) → j < length values → value_of x ≡ low p j → value_of y ≡ constant_of d (column_count p) j → value_of z ≡ value_of x +ℚ value_of y → (Passes Plus x y → ⊥)
     → ((k : ℕ) → k < j → number_at values k ≡ column_value p d k) → ((k : ℕ) → k < j → IsFine Plus (low p k) (constant_of d (column_count p) k))
@@ -41,11 +41,11 @@ values_more p d j values x y z inside ex ey ez never exact fine = (
       (λ (ne : k ≢ j). fine k (omega arith)) (cases_eq k j),
 )
 
-pub low_value : (p : Program) (j : ℕ) (f : Frac) (t : ℤ × ℤ) → j < length p.columns.items → t ≡ get_or p.columns.items j t → value_of f ≡ whole_ℚ t.0 → value_of f ≡ low p j
+pub low_value : (p : Program) (j : ℕ) (f : Frac) (t : ℤ × ℤ) → j < length p.columns → t ≡ get_or p.columns j t → value_of f ≡ whole_ℚ t.0 → value_of f ≡ low p j
 unfolding low
-low_value p j f t inside at is = is ∙ ap (λ (x : ℤ × ℤ). whole_ℚ x.0) (at ∙ get_or_default p.columns.items j t (pos 0, pos 0) inside)
+low_value p j f t inside at is = is ∙ ap (λ (x : ℤ × ℤ). whole_ℚ x.0) (at ∙ get_or_default p.columns j t (pos 0, pos 0) inside)
 
-pub low_small : (p : Program) (j : ℕ) (t : ℤ × ℤ) → j < length p.columns.items → t ≡ get_or p.columns.items j t → All IsBox p.columns.items → unsigned_abs t.0 ≤ 2 ^ 31
+pub low_small : (p : Program) (j : ℕ) (t : ℤ × ℤ) → j < length p.columns → t ≡ get_or p.columns j t → All IsBox p.columns → unsigned_abs t.0 ≤ 2 ^ 31
 low_small p j t inside at boxes = subst (λ (x : ℤ × ℤ). unsigned_abs x.0 ≤ 2 ^ 31) (sym at) (boxes j t inside).least
 
 pub constant_here : (d : Dictionary) (f n j : ℕ) (x : ℚ) → f ≡ n → x ≡ constant_of d f j → x ≡ constant_of d n j

@@ -6,11 +6,12 @@ use Rattle.std.proofs.lemmas.List.{length-append}
 use Rattle.std.proofs.Math.Logic.{⊎_elim}
 use Rattle.std.proofs.Math.Seq.{get_or-append_seam}
 use Rattle.std.proofs.Math.ListN.{get_or-append}
-use Rattle.sm_lp.specs.declared.program.Program.{Program}
+use Rattle.sm_certificate.specs.declared.program.Program.{Program}
 use Rattle.sm_lp.specs.Dictionary.{Dictionary}
 use Rattle.sm_lp.specs.Rule.{is_basic, row_of}
-use Rattle.sm_lp.specs.Program.{column_count}
-use Rattle.sm_lp.specs.First.{first, slack_count, number_count}
+use Rattle.sm_certificate.specs.Program.{column_count}
+use Rattle.sm_lp.specs.First.{first}
+use Rattle.sm_certificate.specs.Slacks.{slack_count, number_count}
 use Rattle.sm_lp.specs.Path.{IsDictionary, IsReached, IsOnPath, numbers_below, basis_of}
 use Rattle.sm_lp.specs.Laws.{OneDictionary, NoBasisReturns, PathEnds}
 use Rattle.sm_lp.proofs.Points.{one_dictionary}

@@ -6,8 +6,8 @@ use Rattle.std.proofs.lemmas.List.{drop_all, map-append, append_assoc, append-ni
 use Rattle.sm_frac.specs.Rational.{ℚ, ◌-ℚ◌, zero_ℚ}
 use Rattle.sm_frac.specs.Frac.{value_of}
 use Rattle.sm_frac.specs.declared.fraction.Frac.{Frac}
-use Rattle.sm_lp.specs.declared.program.LpRow.{LpRow}
-use Rattle.sm_lp.specs.First.{Half, halves, halves_of, upper_half, turned_half}
+use Rattle.sm_certificate.specs.declared.program.LpRow.{LpRow}
+use Rattle.sm_certificate.specs.Slacks.{Half, halves, halves_of, upper_half, turned_half}
 use Rattle.sm_lp.specs.Answer.{row_multipliers}
 use Rattle.sm_lp.specs.Ending.{AreApart, multiplier_of}
 

@@ -4,9 +4,11 @@ use Rattle.std.proofs.lemmas.Bool.{cases_eq}
 use Rattle.std.proofs.Math.Logic.{⊎_elim}
 use Rattle.sm_frac.specs.Rational.{ℚ, ◌+ℚ◌, ◌*ℚ◌, ◌-ℚ◌, zero_ℚ}
 use Rattle.sm_frac.proofs.RationalRing.{ring}
-use Rattle.sm_lp.specs.Dictionary.{total, value_at}
-use Rattle.sm_lp.proofs.Totals.{total_same, total-scaled, total-sum, total_split, total-zero, without, without_at, without_off}
-use Rattle.sm_lp.proofs.Points.{choose, choose_not, missing}
+use Rattle.sm_certificate.specs.Totals.{total}
+use Rattle.sm_lp.specs.Dictionary.{value_at}
+use Rattle.sm_certificate.proofs.Totals.{total_same, total-scaled, total-sum, total_split, total-zero, without, without_at, without_off}
+use Rattle.sm_certificate.proofs.Totals.{choose, choose_not}
+use Rattle.sm_lp.proofs.Points.{missing}
 
 zero_times : (x : ℚ) → zero_ℚ *ℚ x ≡ zero_ℚ
 zero_times x = simp ring

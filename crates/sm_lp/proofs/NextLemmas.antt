@@ -6,10 +6,10 @@ use Rattle.std.proofs.Math.Logic.{⊎_elim}
 use Rattle.sm_frac.specs.Rational.{ℚ, neg_ℚ, is_nonnegative}
 use Rattle.sm_lp.specs.Dictionary.{Dictionary, pivot}
 use Rattle.sm_lp.specs.Rule.{least, row_of, column_of, is_basic, is_nonbasic, needs_move, can_enter, can_leave, after_row, after_column, next}
-use Rattle.sm_lp.specs.Signs.{AtLeast, Below, AtMost, Above}
+use Rattle.sm_certificate.specs.Signs.{AtLeast, Below, AtMost, Above}
 use Rattle.sm_lp.specs.Moves.{IsGood, IsMove, IsOptimal, IsInfeasible, MovesByRow, MovesByColumn}
 use Rattle.sm_lp.proofs.RuleLemmas.{is_least, less_of, of_less, place_is, place_found}
-use Rattle.sm_lp.proofs.Signs.{by_test}
+use Rattle.sm_certificate.proofs.Signs.{by_test}
 
 if_true : {A : Type 0} (b : Bool) (x y : A) → b ≡ true → (if b then x else y) ≡ x
 if_true true x y e = refl

@@ -7,23 +7,26 @@ use Rattle.std.proofs.Math.Logic.{⊎_elim}
 use Rattle.sm_frac.specs.Rational.{ℚ, ◌+ℚ◌, ◌*ℚ◌, ◌-ℚ◌, neg_ℚ, zero_ℚ, one_ℚ, ◌≤ℚ◌, ◌<ℚ◌, is_nonnegative}
 use Rattle.sm_frac.proofs.RationalRing.{ring}
 use Rattle.sm_frac.proofs.Order.{le_equal, le_trans, le_antisymm, lt_from_not_le, lt_le_trans, lt_not_le}
-use Rattle.sm_lp.specs.declared.program.Program.{Program}
-use Rattle.sm_lp.specs.declared.program.LpRow.{LpRow}
-use Rattle.sm_lp.specs.Signs.{AtLeast, AtMost}
-use Rattle.sm_lp.specs.Dictionary.{Dictionary, total, Solves, value_at}
+use Rattle.sm_certificate.specs.declared.program.Program.{Program}
+use Rattle.sm_certificate.specs.declared.program.LpRow.{LpRow}
+use Rattle.sm_certificate.specs.Signs.{AtLeast, AtMost}
+use Rattle.sm_lp.specs.Dictionary.{Dictionary, Solves, value_at}
+use Rattle.sm_certificate.specs.Totals.{total}
 use Rattle.sm_lp.specs.Moves.{IsOptimal, IsInfeasible}
-use Rattle.sm_lp.specs.Program.{column_count, low, high, cost, row_coefficient, row_bound, row_value, SatisfiesRow, Satisfies, cost_of, AreMultipliers, bound_of}
-use Rattle.sm_lp.specs.First.{Half, halves, half_count, half_at, slack_count, number_count, first, upper_half, turned_half}
+use Rattle.sm_certificate.specs.Program.{column_count, low, high, cost, row_coefficient, row_bound, row_value, SatisfiesRow, Satisfies, cost_of, AreMultipliers, bound_of}
+use Rattle.sm_certificate.specs.Slacks.{Half, halves, half_count, half_at, slack_count, number_count, upper_half, turned_half}
+use Rattle.sm_lp.specs.First.{first}
 use Rattle.sm_lp.specs.Steps.{constant_of, column_value}
 use Rattle.sm_lp.specs.Answer.{goal_coefficient, turned_coefficient, multipliers_of}
-use Rattle.sm_lp.proofs.Signs.{moved, zero_at_least}
-use Rattle.sm_lp.proofs.Totals.{total_same, total-zero, total-scaled, total-sum, total_split, without, without_at, without_off}
-use Rattle.sm_lp.proofs.Points.{column_point, column_point_nonbasic, column_point_basic, column_point_solves, unit_at, unit_off, missing, found, choose, choose_not}
+use Rattle.sm_certificate.proofs.Signs.{moved, zero_at_least}
+use Rattle.sm_certificate.proofs.Totals.{total_same, total-zero, total-scaled, total-sum, total_split, without, without_at, without_off}
+use Rattle.sm_lp.proofs.Points.{column_point, column_point_nonbasic, column_point_basic, column_point_solves, unit_at, unit_off, missing, found}
+use Rattle.sm_certificate.proofs.Totals.{choose, choose_not}
 use Rattle.sm_lp.proofs.Multipliers.{total_reindexed}
 use Rattle.sm_lp.proofs.Clash.{point_at_least, one_at_least}
 use Rattle.sm_lp.proofs.FirstLemmas.{Balances, balances, IsTracked}
 use Rattle.sm_lp.proofs.Combine.{HasSum, sum_reached, merged_lawful, half_of}
-use Rattle.sm_lp.proofs.Duality.{bound_least}
+use Rattle.sm_certificate.proofs.Duality.{bound_least}
 
 -- ---- coefficients by number
 pub value_at_least : (w : ℕ) (nb : ℕ → ℕ) (t : ℕ → ℚ) (y : ℕ) → ((j : ℕ) → j < w → AtLeast (t j)) → AtLeast (value_at w nb t y zero_ℚ)
@@ -237,7 +240,7 @@ module _ (p : Program) (d : Dictionary) (t : IsTracked p d) (o : IsOptimal d (co
     greatest_ends = λ j h.
         let is = b.ends j h ∙ ap (λ (q : ℚ). neg_ℚ (last j) +ℚ (high p j -ℚ low p j) *ℚ q) last_constant ∙ under (low p j) (high p j) (last j) ∙ ap (λ (q : ℚ). high p j -ℚ q) (sym (x_is j h)) in
         record { le = (moved (last (column_count p + (half_count p + j))) (high p j -ℚ column_value p d j) is (last_least (column_count p + (half_count p + j)) (omega arith))).is };
-    rows = satisfied (column_count p) (column_value p d) p.rows.items half_holds;
+    rows = satisfied (column_count p) (column_value p d) p.rows half_holds;
   }
     where
       over : (l v : ℚ) → v ≡ l +ℚ v -ℚ l
@@ -258,8 +261,8 @@ module _ (p : Program) (d : Dictionary) (t : IsTracked p d) (o : IsOptimal d (co
   abbrev ys : List ℚ
   ys = multipliers_of p (goal_coefficient p d)
 
-  pub goal_lawful : AreMultipliers p.rows.items (multipliers_of p (goal_coefficient p d))
-  goal_lawful = merged_lawful p.rows.items (goal_coefficient p d) (column_count p) (goal_sign p d t o)
+  pub goal_lawful : AreMultipliers p.rows (multipliers_of p (goal_coefficient p d))
+  goal_lawful = merged_lawful p.rows (goal_coefficient p d) (column_count p) (goal_sign p d t o)
 
   pub bound_is_cost : ((j : ℕ) → j < column_count p → low p j ≤ℚ high p j) → cost_of p (column_value p d) ≡ bound_of p (cost p) (multipliers_of p (goal_coefficient p d))
   bound_is_cost order =
@@ -272,8 +275,8 @@ module _ (p : Program) (d : Dictionary) (t : IsTracked p d) (o : IsOptimal d (co
 
 -- ---- a contradiction
 module _ (p : Program) (d : Dictionary) (t : IsTracked p d) (r : ℕ) (o : IsInfeasible d (column_count p) (slack_count p) r) where
-  pub turned_lawful : AreMultipliers p.rows.items (multipliers_of p (turned_coefficient p d r))
-  turned_lawful = merged_lawful p.rows.items (turned_coefficient p d r) (column_count p) (turned_sign p d t r o)
+  pub turned_lawful : AreMultipliers p.rows (multipliers_of p (turned_coefficient p d r))
+  turned_lawful = merged_lawful p.rows (turned_coefficient p d r) (column_count p) (turned_sign p d t r o)
 
   above_zero : zero_ℚ <ℚ neg_ℚ (d.entry r (column_count p))
   above_zero = lt_from_not_le zero_ℚ (neg_ℚ (d.entry r (column_count p))) (λ le. o.constant.is (record { is = subst (λ (q : ℚ). IsTrue (is_nonnegative q)) (tidy (d.entry r (column_count p))) le.le }))

@@ -3,7 +3,7 @@ use Rattle.std.proofs.Common.{◌≡◌, ℕ, suc, zero, ◌<◌, sym, ap, ◌�
 use Rattle.std.specs.Prelude.{Option, Some, None}
 use Rattle.std.proofs.lemmas.Bool.{cases_order}
 use Rattle.std.proofs.Math.Logic.{⊎_elim}
-use Rattle.sm_lp.specs.declared.program.Program.{Program}
+use Rattle.sm_certificate.specs.declared.program.Program.{Program}
 use Rattle.sm_lp.specs.Dictionary.{Dictionary}
 use Rattle.sm_lp.specs.Steps.{Stands}
 use Rattle.sm_lp.specs.Path.{successor, IsReached, IsOnPath}

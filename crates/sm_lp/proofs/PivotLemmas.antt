@@ -5,8 +5,9 @@ use Rattle.std.proofs.lemmas.Bool.{cases_eq}
 use Rattle.std.proofs.Math.Logic.{⊎_elim}
 use Rattle.sm_frac.specs.Rational.{ℚ, ◌+ℚ◌, ◌*ℚ◌, ◌-ℚ◌, neg_ℚ, zero_ℚ, one_ℚ, inverse, *ℚ-inverse}
 use Rattle.sm_frac.proofs.RationalRing.{ring, one-*ℚ}
-use Rattle.sm_lp.specs.Dictionary.{total, Dictionary, SolvesRow, Solves, pivot_entry, replaced, pivot}
-use Rattle.sm_lp.proofs.Totals.{total_same, total-scaled, total-sum, total_split, without, without_at, without_off}
+use Rattle.sm_certificate.specs.Totals.{total}
+use Rattle.sm_lp.specs.Dictionary.{Dictionary, SolvesRow, Solves, pivot_entry, replaced, pivot}
+use Rattle.sm_certificate.proofs.Totals.{total_same, total-scaled, total-sum, total_split, without, without_at, without_off}
 
 pub replaced_at : (n : ℕ) (f : ℕ → ℕ) (k x i : ℕ) → i < n → i ≡ k → replaced n f k x i ≡ x
 unfolding replaced

@@ -15,14 +15,15 @@ use Rattle.sm_frac.specs.declared.fraction.Frac.{Frac}
 use Rattle.sm_frac.specs.declared.operation.Op.{Op}
 use Rattle.sm_frac.specs.declared.operation.RangePassed.{RangePassed}
 use Rattle.sm_frac.specs.declared.operation.Op.TheVariants.{Plus, Minus, Times, Over, Lcm}
-use Rattle.sm_lp.specs.Numbers.{number_at}
+use Rattle.sm_certificate.specs.Numbers.{number_at}
 use Rattle.sm_lp.specs.Dictionary.{Dictionary, pivot, pivot_entry, replaced}
 use Rattle.sm_lp.specs.Steps.{dividend, quotient}
-use Rattle.sm_lp.specs.Table.{cell_entry, IsFine, IsEliminated, IsRowPassed, IsSubtracted, IsSubtractionPassed, IsRowSubtracted}
+use Rattle.sm_lp.specs.Table.{cell_entry, IsEliminated, IsRowPassed, IsSubtracted, IsSubtractionPassed, IsRowSubtracted}
+use Rattle.sm_certificate.specs.Fine.{IsFine}
 use Rattle.sm_lp.specs.Moved.{AreQuotients, IsPassedMove, AreEliminated, IsSomeRowPassed, IsTurnedRow}
 use Rattle.sm_lp.proofs.CellLemmas.{cell_read, cell_right, cell_under, rows_apart}
-use Rattle.sm_lp.proofs.FineLemmas.{fine_of, fine_moved, times_zero_fine, zero_times_fine, minus_zero_fine}
-use Rattle.sm_lp.proofs.NumberLemmas.{number_at-set_same, number_at-set_other}
+use Rattle.sm_certificate.proofs.FineLemmas.{fine_of, fine_moved, times_zero_fine, zero_times_fine, minus_zero_fine}
+use Rattle.sm_certificate.proofs.NumberLemmas.{number_at-set_same, number_at-set_other}
 use Rattle.sm_lp.proofs.PivotLemmas.{entry_pivot, entry_row, entry_column, entry_other, entry_under, entry_right, replaced_at, replaced_off, replaced_past}
 
 pub dividend_here : (d : Dictionary) (r c j : ℕ) → j ≡ c → dividend d r c j ≡ one_ℚ

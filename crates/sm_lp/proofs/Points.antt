@@ -1,19 +1,13 @@
 -- A dictionary has a solution for any values of its nonbasic numbers, and so each basis has one dictionary.
 use Rattle.std.proofs.Common.{◌≡◌, ℕ, suc, zero, ◌<◌, sym, ap, ◌∙◌, refl, arith, ◌≢◌}
 use Rattle.std.specs.Prelude.{◌==◌, if◌then◌else◌}
-use Rattle.std.proofs.lemmas.Bool.Decides.{nat_tests}
 use Rattle.std.proofs.lemmas.Bool.{cases_eq}
 use Rattle.std.proofs.Math.Logic.{⊎_elim}
 use Rattle.sm_frac.specs.Rational.{ℚ, ◌+ℚ◌, ◌*ℚ◌, zero_ℚ, one_ℚ}
 use Rattle.sm_frac.proofs.RationalRing.{ring}
-use Rattle.sm_lp.specs.Dictionary.{total, Dictionary, Solves, IsProper, value_at}
-use Rattle.sm_lp.proofs.Totals.{total_same, total_split, total-zero, without, without_at, without_off}
-
-pub choose : (a k : ℕ) (x y : ℚ) → a ≡ k → (if a == k then x else y) ≡ x
-choose a k x y e = grind (arith, nat_tests)
-
-pub choose_not : (a k : ℕ) (x y : ℚ) → a ≢ k → (if a == k then x else y) ≡ y
-choose_not a k x y e = grind (arith, nat_tests)
+use Rattle.sm_certificate.specs.Totals.{total}
+use Rattle.sm_lp.specs.Dictionary.{Dictionary, Solves, IsProper, value_at}
+use Rattle.sm_certificate.proofs.Totals.{total_same, total_split, total-zero, without, without_at, without_off, choose, choose_not}
 
 pub found : (n : ℕ) (f : ℕ → ℕ) (g : ℕ → ℚ) (k : ℕ) (x : ℚ) (i : ℕ) → i < n → ((a b : ℕ) → a < n → b < n → f a ≡ f b → a ≡ b) → f i ≡ k → value_at n f g k x ≡ g i
 unfolding value_at

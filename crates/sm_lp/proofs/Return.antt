@@ -8,7 +8,7 @@ use Rattle.sm_frac.proofs.RationalRing.{neg_ℚ-zero}
 use Rattle.sm_lp.specs.Dictionary.{Dictionary, Solves, IsProper, pivot}
 use Rattle.sm_lp.proofs.PivotLemmas.{solves_pivot, solves_before, replaced_at, replaced_off}
 use Rattle.sm_lp.specs.Moves.{IsGood, MovesByRow, MovesByColumn, IsMove}
-use Rattle.sm_lp.proofs.Signs.{not_zero}
+use Rattle.sm_certificate.proofs.Signs.{not_zero}
 use Rattle.sm_lp.proofs.Clash.{Occurs, Related, EntersByGoal, EntersByRow, LeavesByConstant, LeavesByColumn, clash}
 
 abbrev pub IsBasic : Dictionary → ℕ → Type 0

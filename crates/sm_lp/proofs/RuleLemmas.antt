@@ -7,7 +7,7 @@ use Rattle.std.proofs.Math.Logic.{⊎_elim}
 use Rattle.sm_frac.specs.Rational.{ℚ, neg_ℚ, is_nonnegative}
 use Rattle.sm_lp.specs.Dictionary.{Dictionary, pivot}
 use Rattle.sm_lp.specs.Rule.{least, place, row_of, column_of, is_basic, is_nonbasic, needs_move, can_enter, can_leave, after_row, after_column, next}
-use Rattle.sm_lp.proofs.Signs.{AtLeast, Below, AtMost}
+use Rattle.sm_certificate.proofs.Signs.{AtLeast, Below, AtMost}
 use Rattle.sm_lp.specs.Moves.{IsGood, IsMove}
 use Rattle.sm_lp.proofs.Return.{IsBasic, no_return, good_after}
 use Rattle.sm_lp.proofs.Bound.{run_bounded}

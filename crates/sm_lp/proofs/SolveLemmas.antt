@@ -5,12 +5,13 @@ use Rattle.sm_frac.specs.Frac.{value_of}
 use Rattle.sm_frac.specs.declared.operation.Op.{Op}
 use Rattle.sm_frac.specs.declared.fraction.Frac.{Frac}
 use Rattle.std.proofs.Math.Logic.{⊎_elim}
-use Rattle.sm_lp.specs.declared.program.Program.{Program}
+use Rattle.sm_certificate.specs.declared.program.Program.{Program}
 use Rattle.sm_lp.specs.Dictionary.{Dictionary, pivot}
 use Rattle.sm_lp.specs.Moves.{IsMove, IsOptimal}
 use Rattle.sm_lp.specs.Turn.{HasLeaving}
-use Rattle.sm_lp.specs.Program.{column_count}
-use Rattle.sm_lp.specs.First.{first, slack_count, number_count}
+use Rattle.sm_certificate.specs.Program.{column_count}
+use Rattle.sm_lp.specs.First.{first}
+use Rattle.sm_certificate.specs.Slacks.{slack_count, number_count}
 use Rattle.sm_lp.specs.Steps.{IsPassingStep, IsPivotStep, IsEndStep, Stands}
 use Rattle.sm_lp.specs.Moved.{IsPassedMove, MoveStands}
 use Rattle.sm_lp.specs.Path.{successor, IsOnPath}

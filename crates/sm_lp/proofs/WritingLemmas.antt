@@ -4,9 +4,10 @@ use Rattle.std.specs.Prelude.{◌⊎◌, ◌==◌, if◌then◌else◌, Bool, tr
 use Rattle.std.proofs.Math.ListN.{length-set}
 use Rattle.std.proofs.Math.Seq.{drop-cons}
 use Rattle.std.proofs.lemmas.List.{get_or-replicate, get_or_past, length-replicate, get_or_default, drop_all}
-use Rattle.sm_lp.proofs.Points.{choose, choose_not}
-use Rattle.sm_lp.proofs.FirstLemmas.{low_or_high, affine_low, affine_at, first_half, first_end, first_goal, first_past, first_right}
-use Rattle.sm_lp.proofs.Totals.{total_same, total-scaled}
+use Rattle.sm_certificate.proofs.Totals.{choose, choose_not}
+use Rattle.sm_certificate.proofs.Totals.{low_or_high}
+use Rattle.sm_lp.proofs.FirstLemmas.{affine_low, affine_at, first_half, first_end, first_goal, first_past, first_right}
+use Rattle.sm_certificate.proofs.Totals.{total_same, total-scaled}
 use Rattle.sm_lp.proofs.CellLemmas.{rows_apart, cell_read, cell_right, cell_under}
 use Rattle.std.proofs.lemmas.Bool.{cases_eq}
 use Rattle.std.proofs.lemmas.Bool.Decides.{nat_tests}
@@ -19,18 +20,20 @@ use Rattle.sm_frac.proofs.RationalRing.{ring}
 use Rattle.sm_frac.proofs.CommonDenominator.{whole_sum, whole_product}
 use Rattle.sm_frac.specs.Frac.{value_of}
 use Rattle.sm_frac.specs.declared.fraction.Frac.{Frac}
-use Rattle.sm_lp.specs.declared.program.Program.{Program}
-use Rattle.sm_lp.specs.declared.program.LpRow.{LpRow}
-use Rattle.sm_lp.specs.Numbers.{number_at}
-use Rattle.sm_lp.specs.Dictionary.{total}
-use Rattle.sm_lp.specs.Program.{column_count, coefficient, low, high, cost}
-use Rattle.sm_lp.specs.Conditions.{IsTerm}
-use Rattle.sm_lp.specs.First.{Half, halves, halves_of, half_count, half_at, half_entry, end_entry, slack_count, number_count, first_entry, first}
+use Rattle.sm_certificate.specs.declared.program.Program.{Program}
+use Rattle.sm_certificate.specs.declared.program.LpRow.{LpRow}
+use Rattle.sm_certificate.specs.Numbers.{number_at}
+use Rattle.sm_certificate.specs.Totals.{total}
+use Rattle.sm_certificate.specs.Program.{column_count, coefficient, low, high, cost}
+use Rattle.sm_certificate.specs.Conditions.{IsTerm}
+use Rattle.sm_certificate.specs.Slacks.{Half, halves, halves_of, half_count, half_at, slack_count, number_count}
+use Rattle.sm_lp.specs.First.{half_entry, end_entry, first_entry, first}
 use Rattle.sm_lp.specs.Writing.{AreNumbers, shift_total, signed, IsRowWritten, AreHalvesWritten, AreRowsWritten, IsEndWritten, AreEndsWritten, IsZeroFrom, IsHalfAt, IsCounting, AreFirstCells}
 use Rattle.sm_lp.specs.Table.{cell_entry}
 use Rattle.std.proofs.Math.Path.{fun_ext}
 use Rattle.sm_lp.proofs.PivotSteps.{dictionary, same_dictionary}
-use Rattle.sm_lp.proofs.NumberLemmas.{number_at-set_same, number_at-set_other, number_read, number_past}
+use Rattle.sm_certificate.proofs.NumberLemmas.{number_at-set_same, number_at-set_other, number_read, number_past}
+use Rattle.sm_certificate.proofs.SlackLemmas.{halves_count, count_two, count_one, drop_halves, all_counted, coefficient_none, term_here, term_off}
 
 -- the terms of the first i are written
 pub record NumbersSoFar (n : ℕ) (terms : List (ℕ × ℤ)) (i : ℕ) (numbers : List ℤ) : Type 0 where
@@ -53,8 +56,8 @@ pub record WrittenSoFar (old new : List Frac) (s : ℕ) (numbers : List ℤ) (tu
 -- the halves of the first rows are written
 pub record HalvesSoFar (p : Program) (old new : List Frac) (row half : ℕ) : Type 0 where
   pub long : length new ≡ length old
-  pub count : half + length (halves (drop row p.rows.items)) ≡ half_count p
-  pub rest : (k : ℕ) → half_at p (half + k) ≡ get_or (halves (drop row p.rows.items)) k (record { coefficient = λ _. zero_ℚ; bound = zero_ℚ })
+  pub count : half + length (halves (drop row p.rows)) ≡ half_count p
+  pub rest : (k : ℕ) → half_at p (half + k) ≡ get_or (halves (drop row p.rows)) k (record { coefficient = λ _. zero_ℚ; bound = zero_ℚ })
   pub done : (i : ℕ) → i < half → IsHalfAt p new (i * suc (column_count p)) (half_at p i)
   pub after : (k : ℕ) → half * suc (column_count p) ≤ k → number_at new k ≡ number_at old k
 
@@ -65,22 +68,6 @@ pub record EndsSoFar (p : Program) (old new : List Frac) (i : ℕ) : Type 0 wher
   pub after : (k : ℕ) → (half_count p + i) * suc (column_count p) ≤ k → number_at new k ≡ number_at old k
 
 -- ---- counting halves
-kind_count : (e : Bool) (a b : Half) (hs : List Half) → length (if e then a ∷ b ∷ hs else a ∷ hs) ≡ length (if e then a ∷ b ∷ [] else a ∷ []) + length hs
-kind_count true a b hs = omega arith
-kind_count false a b hs = omega arith
-
-pub halves_count : (row : LpRow) (rows : List LpRow) → length (halves (row ∷ rows)) ≡ length (halves_of row) + length (halves rows)
-unfolding halves halves_of
-halves_count row rows = kind_count row.equal (record { coefficient = λ j. coefficient row.terms.items j; bound = whole_ℚ row.bound }) (record { coefficient = λ j. neg_ℚ (coefficient row.terms.items j); bound = neg_ℚ (whole_ℚ row.bound) }) (halves rows)
-
-pub count_two : (row : LpRow) → row.equal ≡ true → length (halves_of row) ≡ 2
-unfolding halves_of
-count_two row e = rw e refl
-
-pub count_one : (row : LpRow) → row.equal ≡ false → length (halves_of row) ≡ 1
-unfolding halves_of
-count_one row e = rw e refl
-
 abbrev none_half : Half
 none_half = record { coefficient = λ _. zero_ℚ; bound = zero_ℚ }
 
@@ -96,10 +83,10 @@ kind_rest true a b hs k = let e : 2 + k ≡ suc (suc k) = omega arith in ap (λ 
 kind_rest false a b hs k = let e : 1 + k ≡ suc k = omega arith in ap (λ (i : ℕ). get_or (a ∷ hs) i none_half) e
 
 abbrev up : LpRow → Half
-up row = record { coefficient = λ j. coefficient row.terms.items j; bound = whole_ℚ row.bound }
+up row = record { coefficient = λ j. coefficient row.terms j; bound = whole_ℚ row.bound }
 
 abbrev back : LpRow → Half
-back row = record { coefficient = λ j. neg_ℚ (coefficient row.terms.items j); bound = neg_ℚ (whole_ℚ row.bound) }
+back row = record { coefficient = λ j. neg_ℚ (coefficient row.terms j); bound = neg_ℚ (whole_ℚ row.bound) }
 
 pub halves_first : (row : LpRow) (rows : List LpRow) (k : ℕ) → k < length (halves_of row) → get_or (halves (row ∷ rows)) k none_half ≡ get_or (halves_of row) k none_half
 unfolding halves halves_of
@@ -109,33 +96,7 @@ pub halves_rest : (row : LpRow) (rows : List LpRow) (k : ℕ) → get_or (halves
 unfolding halves halves_of
 halves_rest row rows k = kind_rest row.equal (up row) (back row) (halves rows) k
 
-pub no_halves : length (halves []) ≡ 0
-unfolding halves
-no_halves = refl
-
--- one row less
-pub drop_halves : (rows : List LpRow) (i : ℕ) (row : LpRow) → i < length rows → row ≡ get_or rows i row → halves (drop i rows) ≡ halves (row ∷ drop (i + 1) rows)
-drop_halves rows i row h is = let e : suc i ≡ i + 1 = omega arith in ap halves (drop-cons rows i row h ∙ ap (λ (r : LpRow). r ∷ drop (suc i) rows) (sym is) ∙ ap (λ (k : ℕ). row ∷ drop k rows) e)
-
-pub all_counted : (rows : List LpRow) (i : ℕ) → length rows ≤ i → length (halves (drop i rows)) ≡ 0
-all_counted rows i h = ap (λ (xs : List LpRow). length (halves xs)) (drop_all i rows h) ∙ no_halves
-
 -- ---- the numbers of the terms
-coefficient_none : (j : ℕ) → coefficient [] j ≡ zero_ℚ
-unfolding coefficient
-coefficient_none j = refl
-
-term_here : (t : ℕ × ℤ) (ts : List (ℕ × ℤ)) (j : ℕ) → t.0 ≡ j → coefficient (t ∷ ts) j ≡ whole_ℚ t.1 +ℚ coefficient ts j
-unfolding coefficient
-term_here t ts j e = ap (λ (x : ℚ). x +ℚ coefficient ts j) (choose t.0 j (whole_ℚ t.1) zero_ℚ e)
-
-term_off : (t : ℕ × ℤ) (ts : List (ℕ × ℤ)) (j : ℕ) → t.0 ≢ j → coefficient (t ∷ ts) j ≡ coefficient ts j
-unfolding coefficient
-term_off t ts j e = ap (λ (x : ℚ). x +ℚ coefficient ts j) (choose_not t.0 j (whole_ℚ t.1) zero_ℚ e) ∙ tidy (coefficient ts j)
-  where
-    tidy : (x : ℚ) → zero_ℚ +ℚ x ≡ x
-    tidy x = simp ring
-
 zero_first : (x : ℚ) → zero_ℚ +ℚ x ≡ x
 zero_first x = simp ring
 
@@ -292,9 +253,9 @@ half_written p old new s numbers constant turned half long coefficients last r j
     ap (λ (k : ℕ). number_at new (s + k)) e ∙ r.constant ∙ last ∙ sym (affine_at (column_count p) half.coefficient (total (column_count p) (λ j. half.coefficient j *ℚ low p j) -ℚ half.bound) j (omega arith)))
     (low_or_high j (column_count p))
 
-pub row_shift : (p : Program) (row : LpRow) (numbers : List ℤ) (shift constant : ℤ) → AreNumbers (column_count p) row.terms.items numbers → whole_ℚ shift ≡ shift_total numbers p.columns.items → whole_ℚ constant ≡ whole_ℚ shift -ℚ whole_ℚ row.bound → whole_ℚ constant ≡ total (column_count p) (λ j. coefficient row.terms.items j *ℚ low p j) -ℚ whole_ℚ row.bound
+pub row_shift : (p : Program) (row : LpRow) (numbers : List ℤ) (shift constant : ℤ) → AreNumbers (column_count p) row.terms numbers → whole_ℚ shift ≡ shift_total numbers p.columns → whole_ℚ constant ≡ whole_ℚ shift -ℚ whole_ℚ row.bound → whole_ℚ constant ≡ total (column_count p) (λ j. coefficient row.terms j *ℚ low p j) -ℚ whole_ℚ row.bound
 unfolding low
-row_shift p row numbers shift constant n sum is = is ∙ ap (λ (x : ℚ). x -ℚ whole_ℚ row.bound) (sum ∙ total_same (column_count p) (λ j. whole_ℚ (get_or numbers j (pos 0)) *ℚ whole_ℚ (get_or p.columns.items j (pos 0, pos 0)).0) (λ j. coefficient row.terms.items j *ℚ whole_ℚ (get_or p.columns.items j (pos 0, pos 0)).0) (λ j l. ap (λ (x : ℚ). x *ℚ whole_ℚ (get_or p.columns.items j (pos 0, pos 0)).0) (n.exact j l)))
+row_shift p row numbers shift constant n sum is = is ∙ ap (λ (x : ℚ). x -ℚ whole_ℚ row.bound) (sum ∙ total_same (column_count p) (λ j. whole_ℚ (get_or numbers j (pos 0)) *ℚ whole_ℚ (get_or p.columns j (pos 0, pos 0)).0) (λ j. coefficient row.terms j *ℚ whole_ℚ (get_or p.columns j (pos 0, pos 0)).0) (λ j l. ap (λ (x : ℚ). x *ℚ whole_ℚ (get_or p.columns j (pos 0, pos 0)).0) (n.exact j l)))
 
 pub turned_shift : (n : ℕ) (a l : ℕ → ℚ) (b c : ℚ) → c ≡ total n (λ j. a j *ℚ l j) -ℚ b → neg_ℚ c ≡ total n (λ j. neg_ℚ (a j) *ℚ l j) -ℚ neg_ℚ b
 turned_shift n a l b c e = ap neg_ℚ e ∙ spread (total n (λ j. a j *ℚ l j)) b ∙ ap (λ (x : ℚ). x -ℚ neg_ℚ b) (sym (total_same n (λ j. neg_ℚ (a j) *ℚ l j) (λ j. neg_ℚ one_ℚ *ℚ (a j *ℚ l j)) (λ j h. turn (a j) (l j)) ∙ total-scaled n (neg_ℚ one_ℚ) (λ j. a j *ℚ l j)))
@@ -316,7 +277,7 @@ two_half_list : (row : LpRow) → row.equal ≡ true → halves_of row ≡ up ro
 unfolding halves_of
 two_half_list row e = rw e refl
 
-pub written_one : (p : Program) (row : LpRow) (old new : List Frac) (s : ℕ) (numbers : List ℤ) (constant : ℤ) → row.equal ≡ false → AreNumbers (column_count p) row.terms.items numbers → whole_ℚ constant ≡ total (column_count p) (λ j. coefficient row.terms.items j *ℚ low p j) -ℚ whole_ℚ row.bound → IsRowWritten old new s numbers constant false → AreHalvesWritten p row old new s
+pub written_one : (p : Program) (row : LpRow) (old new : List Frac) (s : ℕ) (numbers : List ℤ) (constant : ℤ) → row.equal ≡ false → AreNumbers (column_count p) row.terms numbers → whole_ℚ constant ≡ total (column_count p) (λ j. coefficient row.terms j *ℚ low p j) -ℚ whole_ℚ row.bound → IsRowWritten old new s numbers constant false → AreHalvesWritten p row old new s
 written_one p row old new s numbers constant e n sum r =
     let list = one_half_list row e in
     let count = count_one row e in
@@ -331,7 +292,7 @@ written_one p row old new s numbers constant e n sum r =
       after = λ k h. r.after k (let l = n.long in let c : length (halves_of row) * suc (column_count p) ≡ suc (column_count p) = ap (λ (q : ℕ). q * suc (column_count p)) count ∙ omega arith in omega arith);
     }
 
-pub written_two : (p : Program) (row : LpRow) (old mid new : List Frac) (s next : ℕ) (numbers : List ℤ) (constant : ℤ) → row.equal ≡ true → next ≡ s + suc (column_count p) → AreNumbers (column_count p) row.terms.items numbers → whole_ℚ constant ≡ total (column_count p) (λ j. coefficient row.terms.items j *ℚ low p j) -ℚ whole_ℚ row.bound → IsRowWritten old mid s numbers constant false → IsRowWritten mid new next numbers constant true → AreHalvesWritten p row old new s
+pub written_two : (p : Program) (row : LpRow) (old mid new : List Frac) (s next : ℕ) (numbers : List ℤ) (constant : ℤ) → row.equal ≡ true → next ≡ s + suc (column_count p) → AreNumbers (column_count p) row.terms numbers → whole_ℚ constant ≡ total (column_count p) (λ j. coefficient row.terms j *ℚ low p j) -ℚ whole_ℚ row.bound → IsRowWritten old mid s numbers constant false → IsRowWritten mid new next numbers constant true → AreHalvesWritten p row old new s
 written_two p row old mid new s next numbers constant e place n sum r q =
     let list = two_half_list row e in
     let count = count_two row e in
@@ -347,7 +308,7 @@ written_two p row old mid new s next numbers constant e place n sum r q =
           let o : k ≡ 1 = omega arith in
           let at : s + k * suc (column_count p) ≡ next = ap (λ (i : ℕ). s + i * suc (column_count p)) o ∙ omega arith in
           let which : get_or (halves_of row) k none_half ≡ back row = ap (λ (i : ℕ). get_or (halves_of row) i none_half) o ∙ ap (λ (hs : List Half). get_or hs 1 none_half) list in
-          ap (λ (i : ℕ). number_at new (i + j)) at ∙ half_written p mid new next numbers constant true (back row) n.long (λ i hi. ap neg_ℚ (n.exact i hi)) (turned_shift (column_count p) (λ i. coefficient row.terms.items i) (low p) (whole_ℚ row.bound) (whole_ℚ constant) sum) q j hj ∙ ap (λ (x : Half). half_entry p x j) (sym which))
+          ap (λ (i : ℕ). number_at new (i + j)) at ∙ half_written p mid new next numbers constant true (back row) n.long (λ i hi. ap neg_ℚ (n.exact i hi)) (turned_shift (column_count p) (λ i. coefficient row.terms i) (low p) (whole_ℚ row.bound) (whole_ℚ constant) sum) q j hj ∙ ap (λ (x : Half). half_entry p x j) (sym which))
           (cases_eq k 0);
       before = λ k h. q.before k (omega arith) ∙ r.before k h;
       after = λ k h.
@@ -359,40 +320,40 @@ written_two p row old mid new s next numbers constant e place n sum r q =
 pub halves_start : (p : Program) (old : List Frac) → HalvesSoFar p old old 0 0
 halves_start p old = record { long = refl; count = omega arith; rest = λ k. let e : 0 + k ≡ k = omega arith in ap (half_at p) e; done = λ i h. absurd (omega arith); after = λ k h. refl }
 
-pub halves_inside : (p : Program) (old new : List Frac) (i half : ℕ) (row : LpRow) → i < length p.rows.items → row ≡ get_or p.rows.items i row → HalvesSoFar p old new i half → half + length (halves_of row) ≤ half_count p
+pub halves_inside : (p : Program) (old new : List Frac) (i half : ℕ) (row : LpRow) → i < length p.rows → row ≡ get_or p.rows i row → HalvesSoFar p old new i half → half + length (halves_of row) ≤ half_count p
 halves_inside p old new i half row hi is h =
-    let cut = ap (λ (hs : List Half). length hs) (drop_halves p.rows.items i row hi is) in
-    let more = halves_count row (drop (i + 1) p.rows.items) in
+    let cut = ap (λ (hs : List Half). length hs) (drop_halves p.rows i row hi is) in
+    let more = halves_count row (drop (i + 1) p.rows) in
     let c = h.count in
     omega arith
 
-pub halves_more : (p : Program) (old new newer : List Frac) (i half : ℕ) (row : LpRow) → i < length p.rows.items → row ≡ get_or p.rows.items i row → AreHalvesWritten p row new newer (half * suc (column_count p)) → HalvesSoFar p old new i half → HalvesSoFar p old newer (i + 1) (half + length (halves_of row))
+pub halves_more : (p : Program) (old new newer : List Frac) (i half : ℕ) (row : LpRow) → i < length p.rows → row ≡ get_or p.rows i row → AreHalvesWritten p row new newer (half * suc (column_count p)) → HalvesSoFar p old new i half → HalvesSoFar p old newer (i + 1) (half + length (halves_of row))
 halves_more p old new newer i half row hi is t h =
     let w = suc (column_count p) in
     let m = length (halves_of row) in
-    let cut = drop_halves p.rows.items i row hi is in
+    let cut = drop_halves p.rows i row hi is in
     let count = ap (λ (hs : List Half). length hs) cut in
-    let more = halves_count row (drop (i + 1) p.rows.items) in
+    let more = halves_count row (drop (i + 1) p.rows) in
     let c = h.count in
     record {
       long = t.long ∙ h.long;
       count = omega arith;
-      rest = λ k. let e : half + m + k ≡ half + (m + k) = omega arith in ap (half_at p) e ∙ h.rest (m + k) ∙ ap (λ (hs : List Half). get_or hs (m + k) none_half) cut ∙ halves_rest row (drop (i + 1) p.rows.items) k;
+      rest = λ k. let e : half + m + k ≡ half + (m + k) = omega arith in ap (half_at p) e ∙ h.rest (m + k) ∙ ap (λ (hs : List Half). get_or hs (m + k) none_half) cut ∙ halves_rest row (drop (i + 1) p.rows) k;
       done = λ q hq j hj. ⊎_elim
           (λ (low : q < half). t.before (q * w + j) (let apart = rows_apart q half w low in omega arith) ∙ h.done q low j hj)
           (λ (high : half ≤ q).
           let k = q - half in
           let e : q ≡ half + k = omega arith in
           let place : q * w + j ≡ half * w + k * w + j = ap (λ (x : ℕ). x * w + j) e ∙ omega arith in
-          let which : half_at p q ≡ get_or (halves_of row) k none_half = ap (half_at p) e ∙ h.rest k ∙ ap (λ (hs : List Half). get_or hs k none_half) cut ∙ halves_first row (drop (i + 1) p.rows.items) k (omega arith) in
+          let which : half_at p q ≡ get_or (halves_of row) k none_half = ap (half_at p) e ∙ h.rest k ∙ ap (λ (hs : List Half). get_or hs k none_half) cut ∙ halves_first row (drop (i + 1) p.rows) k (omega arith) in
           ap (λ (x : ℕ). number_at newer x) place ∙ t.halves k (omega arith) j hj ∙ ap (λ (x : Half). half_entry p x j) (sym which))
           (low_or_high q half);
       after = λ k l. t.after k (omega arith) ∙ h.after k (omega arith);
     }
 
-pub halves_end : (p : Program) (old new : List Frac) (i half : ℕ) → length p.rows.items ≤ i → HalvesSoFar p old new i half → AreRowsWritten p old new
+pub halves_end : (p : Program) (old new : List Frac) (i half : ℕ) → length p.rows ≤ i → HalvesSoFar p old new i half → AreRowsWritten p old new
 halves_end p old new i half hi h =
-    let none = all_counted p.rows.items i hi in
+    let none = all_counted p.rows i hi in
     let c = h.count in
     let e : half ≡ half_count p = omega arith in
     record {
@@ -421,7 +382,7 @@ end_here k j e = choose j k (neg_ℚ one_ℚ) zero_ℚ e
 end_off : (k j : ℕ) → j ≢ k → (if j == k then neg_ℚ one_ℚ else zero_ℚ) ≡ zero_ℚ
 end_off k j e = choose_not j k (neg_ℚ one_ℚ) zero_ℚ e
 
-pub ends_more : (p : Program) (old new newer : List Frac) (i : ℕ) → i < column_count p → IsZeroFrom old (half_count p * suc (column_count p)) → IsEndWritten new newer ((half_count p + i) * suc (column_count p)) i p.columns.items → EndsSoFar p old new i → EndsSoFar p old newer (i + 1)
+pub ends_more : (p : Program) (old new newer : List Frac) (i : ℕ) → i < column_count p → IsZeroFrom old (half_count p * suc (column_count p)) → IsEndWritten new newer ((half_count p + i) * suc (column_count p)) i p.columns → EndsSoFar p old new i → EndsSoFar p old newer (i + 1)
 unfolding low high
 ends_more p old new newer i hi blank t h =
     let n = column_count p in
@@ -499,11 +460,11 @@ cells_entries p blank rows ends new numbers shift start place long count costs s
     le_sum : (m n : ℕ) → m ≤ m + n
     le_sum m n = omega arith
 
-pub cost_numbers : (p : Program) (j : ℕ) → whole_ℚ (get_or p.cost.items j (pos 0)) ≡ cost p j
+pub cost_numbers : (p : Program) (j : ℕ) → whole_ℚ (get_or p.cost j (pos 0)) ≡ cost p j
 unfolding cost
 cost_numbers p j = refl
 
-pub cost_shift : (p : Program) (shift : ℤ) → whole_ℚ shift ≡ shift_total p.cost.items p.columns.items → whole_ℚ shift ≡ total (column_count p) (λ j. cost p j *ℚ low p j)
+pub cost_shift : (p : Program) (shift : ℤ) → whole_ℚ shift ≡ shift_total p.cost p.columns → whole_ℚ shift ≡ total (column_count p) (λ j. cost p j *ℚ low p j)
 unfolding cost low
 cost_shift p shift e = e
 

@@ -2,15 +2,15 @@
 use Rattle.std.specs.Prelude.{◌≡◌, ℕ, ℤ, ◌<◌, ◌+◌, map, List, [], ◌∷◌, if◌then◌else◌, unsigned_abs, ◌==◌}
 use Rattle.sm_frac.specs.Rational.{ℚ, ◌-ℚ◌, ◌≤ℚ◌, neg_ℚ, zero_ℚ, one_ℚ}
 use Rattle.sm_frac.specs.Frac.{value_of}
-use Rattle.sm_lp.specs.declared.program.Program.{Program}
-use Rattle.sm_lp.specs.declared.program.LpRow.{LpRow}
-use Rattle.sm_lp.specs.declared.program.LpAnswer.{LpAnswer}
-use Rattle.sm_lp.specs.declared.program.LpAnswer.TheVariants.{Optimal, Infeasible, Passed}
+use Rattle.sm_certificate.specs.declared.program.Program.{Program}
+use Rattle.sm_certificate.specs.declared.program.LpRow.{LpRow}
+use Rattle.sm_lp.specs.declared.answer.LpAnswer.{LpAnswer}
+use Rattle.sm_lp.specs.declared.answer.LpAnswer.TheVariants.{Optimal, Infeasible, Passed}
 use Rattle.sm_lp.specs.Dictionary.{Dictionary, value_at}
 use Rattle.sm_lp.specs.Moves.{IsOptimal, IsInfeasible}
-use Rattle.sm_lp.specs.Program.{column_count, cost_of, Satisfies, point_value}
-use Rattle.sm_lp.specs.Certificate.{IsOptimalPair, ShowsNoPoint}
-use Rattle.sm_lp.specs.First.{slack_count}
+use Rattle.sm_certificate.specs.Program.{column_count, cost_of, Satisfies, point_value}
+use Rattle.sm_certificate.specs.Certificate.{IsOptimalPair, ShowsNoPoint}
+use Rattle.sm_certificate.specs.Slacks.{slack_count}
 use Rattle.sm_lp.specs.Steps.{IsPassingStep, Stands, column_value, IsDenominator, IsLeastCommon}
 use Rattle.sm_lp.specs.Path.{IsOnPath, basis_of}
 
@@ -28,7 +28,7 @@ row_multipliers [] slack k = []
 row_multipliers (row ∷ rows) slack k = if row.equal then (slack k -ℚ slack (k + 1)) ∷ row_multipliers rows slack (k + 2) else slack k ∷ row_multipliers rows slack (k + 1)
 
 abbrev pub multipliers_of : Program → (ℕ → ℚ) → List ℚ
-multipliers_of p slack = row_multipliers p.rows.items slack (column_count p)
+multipliers_of p slack = row_multipliers p.rows slack (column_count p)
 
 -- The last dictionary of the path that the answer is of.
 abbrev pub EndsPath : Program → LpAnswer → Type 0

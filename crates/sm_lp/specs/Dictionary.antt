@@ -1,11 +1,7 @@
 -- A dictionary writes each basic number as a sum over the nonbasic ones. The constant is a nonbasic number whose value is 1, and the goal a basic one, so neither is a case of its own.
 use Rattle.std.specs.Prelude.{◌≡◌, ℕ, suc, zero, ◌<◌, ◌==◌, if◌then◌else◌, nat_lt}
-use Rattle.sm_frac.specs.Rational.{ℚ, ◌+ℚ◌, ◌*ℚ◌, neg_ℚ, ◌-ℚ◌, inverse, zero_ℚ}
-
--- the sum of f at the places below n
-unfoldable pub total : ℕ → (ℕ → ℚ) → ℚ
-total zero f = zero_ℚ
-total (suc n) f = total n f +ℚ f n
+use Rattle.sm_frac.specs.Rational.{ℚ, ◌*ℚ◌, neg_ℚ, ◌-ℚ◌, inverse, zero_ℚ}
+use Rattle.sm_certificate.specs.Totals.{total}
 
 pub record Dictionary : Type 0 where
   pub height : ℕ

@@ -7,13 +7,13 @@ use Rattle.sm_frac.specs.Passes.{Passes}
 use Rattle.sm_frac.specs.declared.fraction.Frac.{Frac}
 use Rattle.sm_frac.specs.declared.operation.Op.{Op}
 use Rattle.sm_frac.specs.declared.operation.Op.TheVariants.{Plus, Lcm}
-use Rattle.sm_lp.specs.declared.program.Program.{Program}
-use Rattle.sm_lp.specs.declared.program.LpRow.{LpRow}
-use Rattle.sm_lp.specs.Numbers.{number_at}
+use Rattle.sm_certificate.specs.declared.program.Program.{Program}
+use Rattle.sm_certificate.specs.declared.program.LpRow.{LpRow}
+use Rattle.sm_certificate.specs.Numbers.{number_at}
 use Rattle.sm_lp.specs.Dictionary.{Dictionary, value_at}
-use Rattle.sm_lp.specs.Program.{column_count, low}
+use Rattle.sm_certificate.specs.Program.{column_count, low}
 use Rattle.sm_lp.specs.Steps.{constant_of, column_value, IsLeastCommon, JoinsBy}
-use Rattle.sm_lp.specs.Table.{IsFine}
+use Rattle.sm_certificate.specs.Fine.{IsFine}
 
 -- the list has the columns' values, and no sum passed
 pub record AreValues (p : Program) (d : Dictionary) (values : List Frac) : Type 0 where

@@ -1,8 +1,8 @@
 -- What holds of the dictionaries of a program and of its path.
 use Rattle.std.specs.Prelude.{◌≡◌, ℕ, ◌<◌, ◌^◌}
-use Rattle.sm_lp.specs.declared.program.Program.{Program}
+use Rattle.sm_certificate.specs.declared.program.Program.{Program}
 use Rattle.sm_lp.specs.Dictionary.{Dictionary}
-use Rattle.sm_lp.specs.First.{number_count}
+use Rattle.sm_certificate.specs.Slacks.{number_count}
 use Rattle.sm_lp.specs.Path.{IsDictionary, IsReached, basis_of}
 
 -- each nonbasic number of e is one of d

@@ -1,10 +1,6 @@
-pub mod Signs
 pub mod Dictionary
 pub mod Moves
 pub mod Rule
-pub mod Numbers
-pub mod Program
-pub mod Conditions
 pub mod First
 pub mod Steps
 pub mod Table
@@ -13,7 +9,13 @@ pub mod Moved
 pub mod Writing
 pub mod Path
 pub mod Ending
-pub mod Certificate
-pub mod Checking
 pub mod Answer
 pub mod Laws
+pub use Rattle.sm_certificate.specs.Totals
+pub use Rattle.sm_certificate.specs.Signs
+pub use Rattle.sm_certificate.specs.Numbers
+pub use Rattle.sm_certificate.specs.Program
+pub use Rattle.sm_certificate.specs.Slacks
+pub use Rattle.sm_certificate.specs.Conditions
+pub use Rattle.sm_certificate.specs.Fine
+pub use Rattle.sm_certificate.specs.Certificate

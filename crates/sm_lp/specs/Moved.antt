@@ -11,9 +11,10 @@ use Rattle.sm_lp.specs.declared.table.Table.{Table}
 use Rattle.sm_lp.specs.declared.pivot.Moved.{Moved}
 use Rattle.sm_lp.specs.declared.pivot.Moved.TheVariants.{Turned, Passed}
 use Rattle.sm_lp.specs.Dictionary.{Dictionary, pivot}
-use Rattle.sm_lp.specs.Numbers.{number_at}
+use Rattle.sm_certificate.specs.Numbers.{number_at}
 use Rattle.sm_lp.specs.Steps.{IsPivotStep, dividend, quotient}
-use Rattle.sm_lp.specs.Table.{dictionary_of, IsFine, IsRowPassed}
+use Rattle.sm_lp.specs.Table.{dictionary_of, IsRowPassed}
+use Rattle.sm_certificate.specs.Fine.{IsFine}
 
 -- the list has the quotients of the row r by its entry in column c, and no division passed
 pub record AreQuotients (d : Dictionary) (r c : ℕ) (quotients : List Frac) : Type 0 where

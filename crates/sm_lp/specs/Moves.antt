@@ -1,7 +1,7 @@
 -- The moves of the rule of the least number, as facts.
 use Rattle.std.specs.Prelude.{◌≢◌, ℕ, ◌<◌, ◌≤◌, ◌⊎◌}
 use Rattle.sm_lp.specs.Dictionary.{Dictionary, IsProper}
-use Rattle.sm_lp.specs.Signs.{AtLeast, Below, AtMost, Above}
+use Rattle.sm_certificate.specs.Signs.{AtLeast, Below, AtMost, Above}
 
 -- no number stands twice; the constant is the column f, the goal the row g, and all other numbers are below n
 pub record IsGood (d : Dictionary) (f g n : ℕ) : Type 0 where

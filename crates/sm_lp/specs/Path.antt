@@ -1,12 +1,13 @@
 -- The path of a program, and the dictionaries of its bases.
 use Rattle.std.specs.Prelude.{◌≡◌, ℕ, zero, suc, ◌↔◌, Option, Some, Bool, if◌then◌else◌, List, [], ◌∷◌, ◌++◌}
 use Rattle.sm_frac.specs.Rational.{ℚ}
-use Rattle.sm_lp.specs.declared.program.Program.{Program}
+use Rattle.sm_certificate.specs.declared.program.Program.{Program}
 use Rattle.sm_lp.specs.Dictionary.{Dictionary, Solves}
 use Rattle.sm_lp.specs.Moves.{IsGood}
 use Rattle.sm_lp.specs.Rule.{next, is_basic}
-use Rattle.sm_lp.specs.Program.{column_count}
-use Rattle.sm_lp.specs.First.{first, slack_count, number_count}
+use Rattle.sm_certificate.specs.Program.{column_count}
+use Rattle.sm_lp.specs.First.{first}
+use Rattle.sm_certificate.specs.Slacks.{slack_count, number_count}
 use Rattle.sm_lp.specs.Steps.{Stands}
 
 -- d writes its basic numbers, and the goal, by the nonbasic ones, and has the solutions of the program

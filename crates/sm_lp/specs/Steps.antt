@@ -8,11 +8,11 @@ use Rattle.sm_frac.specs.Passes.{Passes}
 use Rattle.sm_frac.specs.declared.fraction.Frac.{Frac}
 use Rattle.sm_frac.specs.declared.operation.Op.{Op}
 use Rattle.sm_frac.specs.declared.operation.Op.TheVariants.{Plus, Minus, Times, Over, Lcm}
-use Rattle.sm_lp.specs.declared.program.Program.{Program}
+use Rattle.sm_certificate.specs.declared.program.Program.{Program}
 use Rattle.sm_lp.specs.Dictionary.{Dictionary, value_at}
 use Rattle.sm_lp.specs.Moves.{IsMove, IsOptimal}
-use Rattle.sm_lp.specs.Program.{column_count, low}
-use Rattle.sm_lp.specs.First.{slack_count}
+use Rattle.sm_certificate.specs.Program.{column_count, low}
+use Rattle.sm_certificate.specs.Slacks.{slack_count}
 
 -- what is divided by the entry at which the dictionary turns: the row's entries, and 1 in the entering column
 unfoldable pub dividend : Dictionary → ℕ → ℕ → ℕ → ℚ

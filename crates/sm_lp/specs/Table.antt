@@ -8,8 +8,9 @@ use Rattle.sm_frac.specs.declared.operation.Op.{Op}
 use Rattle.sm_frac.specs.declared.operation.Op.TheVariants.{Plus, Minus, Times, Over, Lcm}
 use Rattle.sm_lp.specs.declared.table.Table.{Table}
 use Rattle.sm_lp.specs.Dictionary.{Dictionary}
-use Rattle.sm_lp.specs.Numbers.{number_at}
-use Rattle.sm_lp.specs.Signs.{AtLeast, Below, AtMost, Above}
+use Rattle.sm_certificate.specs.Numbers.{number_at}
+use Rattle.sm_certificate.specs.Signs.{AtLeast, Below, AtMost, Above}
+use Rattle.sm_certificate.specs.Fine.{IsFine}
 
 -- the entry of row i and column j, of w columns, where the rows stand one after the other
 unfoldable pub cell_entry : ℕ → ℕ → List Frac → ℕ → ℕ → ℚ
@@ -50,10 +51,6 @@ pub record IsEntering (d : Dictionary) (f r : ℕ) (positive : Bool) (c : ℕ) :
 
 pub record NoneEnters (d : Dictionary) (f r : ℕ) (positive : Bool) : Type 0 where
   pub none : (j : ℕ) → j < f → LacksSign positive (d.entry r j)
-
--- the operation on these numbers stays in range, whatever fractions they are
-pub record IsFine (op : Op) (x y : ℚ) : Type 0 where
-  pub fine : (f h : Frac) → value_of f ≡ x → value_of h ≡ y → Passes op f h → ⊥
 
 -- the place holds what it did less the product, and no step passed
 pub record IsSubtracted (old new : List Frac) (place : ℕ) (factor quotient : ℚ) : Type 0 where

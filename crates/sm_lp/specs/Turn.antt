@@ -3,7 +3,7 @@ use Rattle.std.specs.Prelude.{ℕ, ◌<◌}
 use Rattle.sm_lp.specs.declared.turn.Turn.{Turn}
 use Rattle.sm_lp.specs.declared.turn.Turn.TheVariants.{Optimal, Infeasible, Move}
 use Rattle.sm_lp.specs.Dictionary.{Dictionary}
-use Rattle.sm_lp.specs.Signs.{AtLeast, Below}
+use Rattle.sm_certificate.specs.Signs.{AtLeast, Below}
 use Rattle.sm_lp.specs.Moves.{IsMove, IsOptimal, IsInfeasible}
 
 abbrev pub IsTurn : Dictionary → ℕ → ℕ → Turn → Type 0

@@ -2,13 +2,14 @@
 use Rattle.std.specs.Prelude.{◌≡◌, ◌≢◌, ℕ, ℤ, suc, pos, ◌+◌, ◌*◌, ◌<◌, ◌≤◌, ◌^◌, Bool, true, false, List, length, slice_index_or, All, unsigned_abs}
 use Rattle.sm_frac.specs.Rational.{ℚ, ◌*ℚ◌, ◌-ℚ◌, neg_ℚ, zero_ℚ, one_ℚ, whole_ℚ}
 use Rattle.sm_frac.specs.declared.fraction.Frac.{Frac}
-use Rattle.sm_lp.specs.declared.program.Program.{Program}
-use Rattle.sm_lp.specs.declared.program.LpRow.{LpRow}
+use Rattle.sm_certificate.specs.declared.program.Program.{Program}
+use Rattle.sm_certificate.specs.declared.program.LpRow.{LpRow}
 use Rattle.sm_lp.specs.declared.first.Sizes.{Sizes}
-use Rattle.sm_lp.specs.Numbers.{number_at}
-use Rattle.sm_lp.specs.Dictionary.{total}
-use Rattle.sm_lp.specs.Program.{column_count, coefficient}
-use Rattle.sm_lp.specs.First.{Half, halves_of, half_count, half_at, half_entry, end_entry, slack_count, number_count, first_entry}
+use Rattle.sm_certificate.specs.Numbers.{number_at}
+use Rattle.sm_certificate.specs.Totals.{total}
+use Rattle.sm_certificate.specs.Program.{column_count, coefficient}
+use Rattle.sm_certificate.specs.Slacks.{Half, halves_of, half_count, half_at, slack_count, number_count}
+use Rattle.sm_lp.specs.First.{half_entry, end_entry, first_entry}
 
 abbrev pub IsSmall : ℤ → Type 0
 IsSmall z = unsigned_abs z ≤ 2 ^ 42

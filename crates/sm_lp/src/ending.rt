@@ -3,23 +3,23 @@ ghost use Rattle.std.specs.Prelude.{◌≡◌, ◌≢◌, ℕ, ℤ, suc, pos, �
 ghost use Rattle.std.specs.Int.{◌∣◌};
 ghost use Rattle.sm_frac.specs.Frac.{value_of};
 ghost use Rattle.sm_frac.specs.Rational.{neg_ℚ, zero_ℚ, one_ℚ, ◌-ℚ◌, fraction};
-ghost use Rattle.sm_lp.specs.Numbers.{number_at};
+ghost use Rattle.sm_certificate.specs.Numbers.{number_at};
 ghost use Rattle.sm_lp.specs.Dictionary.{IsProper, value_at};
 ghost use Rattle.sm_lp.specs.Rule.{place};
 ghost use Rattle.sm_lp.specs.Moves.{IsOptimal, IsInfeasible};
-ghost use Rattle.sm_lp.specs.Conditions.{IsSolvable, IsBox};
-ghost use Rattle.sm_lp.specs.Program.{column_count, point_value};
-ghost use Rattle.sm_lp.specs.First.{slack_count, number_count, halves, halves_of};
+ghost use Rattle.sm_certificate.specs.Conditions.{IsSolvable, IsBox};
+ghost use Rattle.sm_certificate.specs.Program.{column_count, point_value};
+ghost use Rattle.sm_certificate.specs.Slacks.{slack_count, number_count, halves, halves_of};
 ghost use Rattle.sm_lp.specs.Steps.{constant_of};
 ghost use Rattle.sm_lp.specs.Path.{numbers_below, IsOnPath};
 ghost use Rattle.sm_lp.specs.Answer.{row_multipliers, EndsPath, IsRight, IsExact};
 ghost use Rattle.sm_lp.specs.Table.{dictionary_of};
 ghost use Rattle.sm_lp.specs.Ending.{AreValues, IsValuePassed, IsJoined, IsJoinPassed, IsCommon, IsCommonPassed, slack_of, multiplier_of, AreApart, AreBoxed};
 
-use crate::first::halves_in;
+use crate::answer::LpAnswer;
 use crate::pivot::turned;
-use crate::program::{LpAnswer, LpRow, OutOfMemory, Program};
 use crate::table::Table;
+use sm_certificate::{LpRow, OutOfMemory, Program, halves_in};
 use sm_frac::{Frac, RangePassed, lcm_52};
 use std::alloc::{AllocError, Global};
 
@@ -85,12 +85,13 @@ fn column_values(
     requires long { vec_len values ≡ column_count program.now }
     requires constant { table.now.constant ≡ column_count program.now }
     requires small { column_count program.now < 2 ^ 32 }
-    requires boxes { All IsBox program.now.columns.items }
+    requires boxes { All IsBox program.now.columns }
     ensures values { IfOk result (λ v. AreValues program.now (dictionary_of table.now) v.items) }
     ensures passed { IfErr result (λ e. IsValuePassed program.now (dictionary_of table.now) e.op e.left e.right) }
 {
+    let columns = program.columns.as_slice();
     for j in 0..values.len() {
-        values[j] = Frac::whole(program.columns[j].0).plus(constant_at(table, j as u32))?;
+        values[j] = Frac::whole(columns[j].0).plus(constant_at(table, j as u32))?;
     }
     Ok(values)
 }
@@ -252,7 +253,7 @@ pub(crate) fn optimal_answer(
     match common_denominator(&values) {
         Ok(denominator) => {
             let point = numerators(alloc, &values, denominator)?;
-            let multipliers = row_multipliers(alloc, &program.rows, table, None)?;
+            let multipliers = row_multipliers(alloc, program.rows.as_slice(), table, None)?;
             Ok(LpAnswer::Optimal {
                 basis,
                 denominator,
@@ -286,6 +287,6 @@ pub(crate) fn infeasible_answer(
     ensures exact { IfOk result (λ a. IsExact program.now a) }
 {
     let basis = basis_below(alloc, &table.basic, table.basic(table.goal))?;
-    let multipliers = row_multipliers(alloc, &program.rows, table, Some(row))?;
+    let multipliers = row_multipliers(alloc, program.rows.as_slice(), table, Some(row))?;
     Ok(LpAnswer::Infeasible { basis, multipliers })
 }

@@ -2,16 +2,17 @@
 ghost use Rattle.std.specs.Prelude.{◌≡◌, ◌≢◌, ℕ, ℤ, suc, ◌+◌, ◌*◌, ◌<◌, ◌≤◌, ◌^◌, length, vec_len, IfOk, IfSome, pos, ◌+ℤ◌, ◌*ℤ◌, unsigned_abs, slice_index_or, All, AllPairs, count_by, not, ◌==◌};
 ghost use Rattle.sm_frac.specs.Frac.{value_of};
 ghost use Rattle.sm_frac.specs.Rational.{neg_ℚ, zero_ℚ, whole_ℚ, ◌*ℚ◌, ◌-ℚ◌};
-ghost use Rattle.sm_lp.specs.Numbers.{number_at};
-ghost use Rattle.sm_lp.specs.Dictionary.{total};
-ghost use Rattle.sm_lp.specs.Program.{column_count, coefficient};
-ghost use Rattle.sm_lp.specs.Conditions.{IsSolvable, IsTerm, IsBox, IsRow};
-ghost use Rattle.sm_lp.specs.First.{first, halves, halves_of, half_count, slack_count, number_count};
+ghost use Rattle.sm_certificate.specs.Numbers.{number_at};
+ghost use Rattle.sm_certificate.specs.Totals.{total};
+ghost use Rattle.sm_certificate.specs.Program.{column_count, coefficient};
+ghost use Rattle.sm_certificate.specs.Conditions.{IsSolvable, IsTerm, IsBox, IsRow};
+ghost use Rattle.sm_lp.specs.First.{first};
+ghost use Rattle.sm_certificate.specs.Slacks.{halves, halves_of, half_count, slack_count, number_count};
 ghost use Rattle.sm_lp.specs.Table.{dictionary_of};
 ghost use Rattle.sm_lp.specs.Writing.{AreNumbers, IsSmall, shift_total, signed, IsRowWritten, AreHalvesWritten, AreRowsWritten, IsEndWritten, AreEndsWritten, IsZeroFrom, AreSizes, IsCounting, AreFirstCells};
 
-use crate::program::{LpRow, OutOfMemory, Program};
 use crate::table::Table;
+use sm_certificate::{LpRow, OutOfMemory, Program, half_rows, halves_in, whole};
 use sm_frac::Frac;
 use std::alloc::{AllocError, Global};
 
@@ -28,57 +29,26 @@ struct Sizes {
     area: usize,
 }
 
-/// A whole number as a fraction.
-pub(crate) fn whole(number: i128) -> Frac
-    requires { unsigned_abs number < 2 ^ 127 }
-    ensures { value_of result ≡ whole_ℚ number }
-{
-    match Frac::new(number, 1) {
-        Some(fraction) => fraction,
-        None => unreachable!(),
-    }
-}
-
-/// How many halves a row has.
-pub(crate) fn halves_in(row: &LpRow) -> usize
-    ensures count { result ≡ length (halves_of row.now) }
-    ensures small { result ≤ 2 }
-{
-    if row.equal { 2 } else { 1 }
-}
-
-/// How many halves there are, or None where a `usize` can't say it.
-fn half_rows(rows: &[LpRow]) -> Option<usize>
-    ensures { IfSome result (λ n. n ≡ length (halves rows.now)) }
-{
-    let mut count: usize = 0;
-    for row in rows {
-        count = count.checked_add(halves_in(row))?;
-    }
-    Some(count)
-}
-
-/// The sizes, or None where they don't fit their types.
-fn sizes_of(program: &Program) -> Option<Sizes>
-    ensures { IfSome result (λ s. AreSizes program.now s) }
+/// The sizes.
+fn sizes_of(program: &Program) -> Sizes
+    requires { IsSolvable program.now }
+    ensures { AreSizes program.now result }
 {
     let columns = program.columns.len();
-    let halves = half_rows(&program.rows)?;
-    let slacks = halves.checked_add(columns)?;
-    let numbers = u32::try_from(columns.checked_add(slacks)?).ok()?;
-    let height = slacks.checked_add(1)?;
-    let width = columns.checked_add(1)?;
-    let area = height.checked_mul(width)?;
-    if numbers == u32::MAX {
-        return None;
-    }
-    Some(Sizes {
+    let halves = match half_rows(program.rows.as_slice()) {
+        Some(halves) => halves,
+        None => unreachable!(),
+    };
+    let slacks = halves + columns;
+    let numbers = (columns + slacks) as u32;
+    let area = (slacks + 1) * (columns + 1);
+    Sizes {
         columns,
         halves,
         slacks,
         numbers,
         area,
-    })
+    }
 }
 
 /// The numbers that the terms give to the columns, 0 where none names one.
@@ -178,11 +148,12 @@ fn write_halves_of(
     requires inside { start + length (halves_of row.now) * suc (column_count program.now) ≤ vec_len cells }
     ensures { IfOk result (λ new. AreHalvesWritten program.now row.now cells.items new.items start) }
 {
-    let numbers = numbers_of(alloc, program.columns.len(), &row.terms)?;
-    let constant = shift_of(&numbers, &program.columns) - row.bound;
+    let columns = program.columns.as_slice();
+    let numbers = numbers_of(alloc, columns.len(), row.terms.as_slice())?;
+    let constant = shift_of(&numbers, columns) - row.bound;
     let cells = write_row(cells, start, &numbers, constant, false);
     if row.equal {
-        let next = start + program.columns.len() + 1;
+        let next = start + columns.len() + 1;
         return Ok(write_row(cells, next, &numbers, constant, true));
     }
     Ok(cells)
@@ -200,7 +171,7 @@ fn write_halves(
 {
     let width = program.columns.len() + 1;
     let mut half = 0;
-    for row in &program.rows {
+    for row in program.rows.as_slice() {
         cells = write_halves_of(alloc, cells, half * width, program, row)?;
         half += halves_in(row);
     }
@@ -228,9 +199,10 @@ fn write_ends(mut cells: Vec<Frac>, halves: usize, program: &Program) -> Vec<Fra
     requires zero { IsZeroFrom cells.items (half_count program.now * suc (column_count program.now)) }
     ensures { AreEndsWritten program.now cells.items result.items }
 {
-    let width = program.columns.len() + 1;
-    for k in 0..program.columns.len() {
-        cells = write_end(cells, (halves + k) * width, k, &program.columns);
+    let columns = program.columns.as_slice();
+    let width = columns.len() + 1;
+    for k in 0..columns.len() {
+        cells = write_end(cells, (halves + k) * width, k, columns);
     }
     cells
 }
@@ -257,16 +229,17 @@ fn first_cells(alloc: Global, program: &Program, sizes: Sizes) -> Result<Vec<Fra
     let blank = vec![in alloc; Frac::whole(0); sizes.area]?;
     let cells = write_halves(alloc, blank, program)?;
     let cells = write_ends(cells, sizes.halves, program);
-    let shift = shift_of(&program.cost, &program.columns);
+    let costs = program.cost.as_slice();
+    let shift = shift_of(costs, program.columns.as_slice());
     let start = sizes.slacks * (sizes.columns + 1);
-    Ok(write_row(cells, start, &program.cost, shift, false))
+    Ok(write_row(cells, start, costs, shift, false))
 }
 
 /// The table of the first dictionary.
 ///
 /// # Errors
 ///
-/// `OutOfMemory`, also where the sizes don't fit their types.
+/// `OutOfMemory`.
 pub(crate) fn first_table(alloc: Global, program: &Program) -> Result<Table, OutOfMemory>
     requires { IsSolvable program.now }
     ensures first { IfOk result (λ t. dictionary_of t ≡ first program.now) }
@@ -274,9 +247,7 @@ pub(crate) fn first_table(alloc: Global, program: &Program) -> Result<Table, Out
     ensures constant { IfOk result (λ t. t.constant ≡ column_count program.now) }
     ensures small { IfOk result (λ _. suc (number_count program.now) < 2 ^ 32) }
 {
-    let Some(sizes) = sizes_of(program) else {
-        return Err(OutOfMemory);
-    };
+    let sizes = sizes_of(program);
     let cells = first_cells(alloc, program, sizes)?;
     let basic = numbers_from(alloc, sizes.columns as u32, sizes.numbers)?;
     let mut nonbasic = numbers_from(alloc, 0, sizes.columns as u32)?;

@@ -3,7 +3,7 @@ ghost use Rattle.sm_lp.specs.Dictionary.{Dictionary};
 ghost use Rattle.sm_lp.specs.Path.{IsDictionary, IsOnPath};
 ghost use Rattle.sm_lp.specs.Laws.{OneDictionary, NoBasisReturns, PathEnds};
 
-use crate::program::Program;
+use sm_certificate::Program;
 
 /// What holds of the path of any program. It does nothing: its contract is the laws. Each dictionary on the path has the
 /// solutions of the program; a basis has one dictionary, in whatever order its rows and columns stand; no basis comes twice on

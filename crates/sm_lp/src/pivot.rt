@@ -2,14 +2,14 @@
 ghost use Rattle.std.specs.Prelude.{◌≡◌, ◌≢◌, ℕ, suc, ◌+◌, ◌*◌, ◌<◌, ◌≤◌, length, vec_len, IfOk, IfErr, slice_set, slice_index};
 ghost use Rattle.sm_frac.specs.Frac.{value_of};
 ghost use Rattle.sm_frac.specs.Rational.{neg_ℚ, zero_ℚ};
-ghost use Rattle.sm_lp.specs.Numbers.{number_at};
+ghost use Rattle.sm_certificate.specs.Numbers.{number_at};
 ghost use Rattle.sm_lp.specs.Steps.{dividend};
 ghost use Rattle.sm_lp.specs.Table.{dictionary_of, IsEliminated, IsRowPassed, IsSubtracted, IsSubtractionPassed, IsRowSubtracted};
 ghost use Rattle.sm_lp.specs.Moved.{AreQuotients, IsPassedMove, AreEliminated, IsSomeRowPassed, IsTurnedRow, IsPassedAt, IsMoved};
 
-use crate::program::OutOfMemory;
 use crate::reading::cell_of;
 use crate::table::Table;
+use sm_certificate::OutOfMemory;
 use sm_frac::{Frac, RangePassed};
 use std::alloc::Global;
 

@@ -1,8 +1,7 @@
 //! Reading a table.
 ghost use Rattle.std.specs.Prelude.{◌≡◌, ℕ, suc, ◌+◌, ◌*◌, ◌<◌, ◌≤◌, vec_len, length, IsTrue, false};
 ghost use Rattle.sm_frac.specs.Frac.{value_of};
-ghost use Rattle.sm_lp.specs.Numbers.{number_at};
-ghost use Rattle.sm_lp.specs.Signs.{AtLeast, Below, AtMost, Above};
+ghost use Rattle.sm_certificate.specs.Numbers.{number_at};
 ghost use Rattle.sm_lp.specs.Table.{dictionary_of};
 
 use crate::table::Table;
@@ -25,22 +24,6 @@ pub(crate) fn cell_of(cells: &[Frac], place: usize) -> Frac
     ensures { number_at cells.now place ≡ value_of result }
 {
     cells[place]
-}
-
-/// Whether a number is below 0.
-pub(crate) fn is_negative(number: Frac) -> bool
-    ensures yes { IsTrue result → Below (value_of number) }
-    ensures no { result ≡ false → AtLeast (value_of number) }
-{
-    number.n() < 0
-}
-
-/// Whether a number is above 0.
-pub(crate) fn is_positive(number: Frac) -> bool
-    ensures yes { IsTrue result → Above (value_of number) }
-    ensures no { result ≡ false → AtMost (value_of number) }
-{
-    number.n() > 0
 }
 
 impl Table {

@@ -1,13 +1,14 @@
 //! The exact simplex.
 ghost use Rattle.std.specs.Prelude.{◌≡◌, IfOk};
-ghost use Rattle.sm_lp.specs.Conditions.{IsSolvable};
+ghost use Rattle.sm_certificate.specs.Conditions.{IsSolvable};
 ghost use Rattle.sm_lp.specs.Answer.{EndsPath, IsRight, IsExact};
 
+use crate::answer::LpAnswer;
 use crate::ending::{basis_below, infeasible_answer, optimal_answer};
 use crate::first::first_table;
 use crate::pivot::{Moved, make_move};
-use crate::program::{LpAnswer, OutOfMemory, Program};
 use crate::turn::{Turn, next_turn};
+use sm_certificate::{OutOfMemory, Program};
 use std::alloc::Global;
 
 /// Solves a linear program by the exact simplex in dictionaries, by the rule of the least number, on which no basis comes
@@ -18,7 +19,7 @@ use std::alloc::Global;
 ///
 /// # Errors
 ///
-/// `OutOfMemory`, also where the columns and slacks are more than a `u32` can number.
+/// `OutOfMemory`.
 pub fn solve_lp(alloc: Global, program: &Program) -> Result<LpAnswer, OutOfMemory>
     requires { IsSolvable program.now }
     ensures path { IfOk result (λ a. EndsPath program.now a) }

@@ -1,13 +1,13 @@
 //! The next move by the rule of the least number (R. Bland, "New finite pivoting rules for the simplex method", 1977), which
 //! here chooses among the columns and the rows alike (M. Avis and V. Chvatal, "Notes on Bland's pivoting rule", 1978).
 ghost use Rattle.std.specs.Prelude.{◌≡◌, ℕ, ◌<◌, ◌≤◌, ◌+◌, MatchOption, Bool, true, false};
-ghost use Rattle.sm_lp.specs.Signs.{AtLeast, Below};
+ghost use Rattle.sm_certificate.specs.Signs.{AtLeast, Below};
 ghost use Rattle.sm_lp.specs.Moves.{IsMove, IsOptimal, IsInfeasible};
 ghost use Rattle.sm_lp.specs.Table.{dictionary_of, IsLeaving, NoneLeaves, IsEntering, NoneEnters, HasSign, LacksSign};
 ghost use Rattle.sm_lp.specs.Turn.{IsTurn, NeedsByRow, NeedsByColumn, HasLeaving};
 
-use crate::reading::{is_negative, is_positive};
 use crate::table::Table;
+use sm_certificate::{is_negative, is_positive};
 
 /// What the rule says at a basis.
 pub(crate) enum Turn {

@@ -3,7 +3,7 @@ ghost use Rattle.std.specs.Prelude.{◌≡◌, ◌≤◌, ◌+◌, length, vec_l
 
 use crate::number::narrowed;
 use crate::tableau::{ENDLESS, Entry, Tableau};
-use sm_lp::{LpRow, OutOfMemory, Program};
+use sm_certificate::{LpRow, OutOfMemory, Program};
 use std::alloc::{AllocError, Global};
 
 /// Writes the coefficients of a row into a row of zeros.
@@ -27,7 +27,7 @@ fn with_term(sum: i128, term: &(u32, i64), columns: &[(i64, i64)]) -> Option<i12
 /// The row at the least ends of all columns, less its bound.
 fn constant_of(row: &LpRow, columns: &[(i64, i64)]) -> Option<i64> {
     let mut sum: i128 = 0;
-    for term in &row.terms {
+    for term in row.terms.as_slice() {
         sum = with_term(sum, term, columns)?;
     }
     narrowed(sum.checked_sub(row.bound)?)
@@ -37,7 +37,7 @@ fn constant_of(row: &LpRow, columns: &[(i64, i64)]) -> Option<i64> {
 fn write_row(numbers: &mut [i64], row: &LpRow, columns: &[(i64, i64)]) -> Option<()>
     ensures { length numbers.new ≡ length numbers.old }
 {
-    write_terms(numbers, &row.terms);
+    write_terms(numbers, row.terms.as_slice());
     let constant = constant_of(row, columns)?;
     let count = columns.len();
     if count < numbers.len() {
@@ -60,10 +60,10 @@ fn write_goal(numbers: &mut [i64], cost: &[i64])
 /// The room of each column and then of each slack.
 fn rooms_of(alloc: Global, program: &Program) -> Result<Vec<i64>, AllocError> {
     let mut rooms = Vec::new(alloc);
-    for (least, greatest) in &program.columns {
+    for (least, greatest) in program.columns.as_slice() {
         rooms.push(greatest.saturating_sub(*least))?;
     }
-    for row in &program.rows {
+    for row in program.rows.as_slice() {
         rooms.push(if row.equal { 0 } else { ENDLESS })?;
     }
     Ok(rooms)
@@ -111,19 +111,21 @@ fn blank_tableau(
 
 /// Writes the rows of the program, and then the goal.
 fn write_rows(tableau: &mut Tableau, program: &Program) -> Option<()> {
-    for i in 0..program.rows.len() {
+    let columns = program.columns.as_slice();
+    let rows = program.rows.as_slice();
+    for i in 0..rows.len() {
         if i < tableau.goal {
             let start = tableau.start(i);
             let end = start + tableau.width();
             let numbers = &mut tableau.cells[start..end];
-            write_row(numbers, &program.rows[i], &program.columns)?;
+            write_row(numbers, &rows[i], columns)?;
             tableau.measure(i);
         }
     }
     let goal = tableau.goal;
     let start = tableau.start(goal);
     let end = start + tableau.width();
-    write_goal(&mut tableau.cells[start..end], &program.cost);
+    write_goal(&mut tableau.cells[start..end], program.cost.as_slice());
     tableau.measure(goal);
     Some(())
 }

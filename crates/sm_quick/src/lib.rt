@@ -11,8 +11,6 @@ mod reading;
 mod row;
 mod search;
 mod tableau;
-#[cfg(test)]
-mod tests;
 mod turn;
 
 pub use proposing::propose;

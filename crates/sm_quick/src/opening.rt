@@ -5,17 +5,23 @@ ghost use Rattle.sm_quick.specs.Shape.{IsSameShape};
 use crate::pivot::pivot;
 use crate::tableau::Tableau;
 use crate::turn::{turn_column, turn_row};
-use sm_lp::{LpRow, Program};
+use sm_certificate::{LpRow, Program};
 
 /// Whether a column has a cost.
 fn is_costly(program: &Program, column: u32) -> bool {
-    program.cost.get(column as usize).copied().unwrap_or(0) != 0
+    program
+        .cost
+        .as_slice()
+        .get(column as usize)
+        .copied()
+        .unwrap_or(0)
+        != 0
 }
 
 /// The only column of a row that has a cost, or None where none has, or several have.
 fn sole_cost(program: &Program, row: &LpRow) -> Option<usize> {
     let mut sole = None;
-    for term in &row.terms {
+    for term in row.terms.as_slice() {
         if term.1 != 0 && is_costly(program, term.0) {
             if sole.is_some() {
                 return None;
@@ -47,8 +53,9 @@ fn open_row(tableau: &mut Tableau, row: usize, column: usize) -> Option<()>
 pub(crate) fn open(tableau: &mut Tableau, program: &Program) -> Option<()>
     ensures { IsSameShape tableau.old tableau.new }
 {
-    for i in 0..program.rows.len() {
-        let row = &program.rows[i];
+    let rows = program.rows.as_slice();
+    for i in 0..rows.len() {
+        let row = &rows[i];
         if row.equal
             && let Some(column) = sole_cost(program, row)
             && i < tableau.goal

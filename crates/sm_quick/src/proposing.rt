@@ -1,14 +1,14 @@
 //! The proposal of an answer.
 ghost use Rattle.std.specs.Prelude.{IfOk, IfSome};
-ghost use Rattle.sm_lp.specs.Conditions.{IsSolvable};
-ghost use Rattle.sm_lp.specs.Certificate.{IsCertificate, IsProven};
+ghost use Rattle.sm_certificate.specs.Conditions.{IsSolvable};
+ghost use Rattle.sm_certificate.specs.Certificate.{IsCertificate, IsProven};
 
 use crate::build::first_tableau;
 use crate::opening::{open, turn_costs};
 use crate::reading::{infeasible_proposal, optimal_proposal};
 use crate::search::{End, search};
 use crate::tableau::Tableau;
-use sm_lp::{Checked, OutOfMemory, Program, Proposal, certify};
+use sm_certificate::{Checked, OutOfMemory, Program, Proposal, certify};
 use std::alloc::Global;
 
 /// Where the simplex ends, or None where it gives up.
@@ -40,7 +40,7 @@ fn certified(
     ensures certified { IfOk result (λ o. IfSome o (λ p. IsCertificate program.now p)) }
     ensures proven { IfOk result (λ o. IfSome o (λ p. IsProven program.now p)) }
 {
-    match certify(alloc, program, &proposal)? {
+    match certify(alloc, program, 0, &proposal)? {
         Checked::Certified => Ok(Some(proposal)),
         Checked::Refuted | Checked::Passed(_) => Ok(None),
     }
@@ -51,7 +51,8 @@ fn certified(
 ///
 /// None says nothing of the program. It comes where the simplex gives up, since a number passes the range of its short
 /// arithmetic, the common denominator of the point is above 2^52, or there were four pivots for each row and column and a
-/// hundred more, and where a step of the check is out of the range of fractions. `sm_lp::solve_lp` then decides.
+/// hundred more, and where a step of the check, with the constant 0, is out of the range of fractions. The exact simplex
+/// then decides.
 ///
 /// # Errors
 ///

@@ -3,8 +3,8 @@ ghost use Rattle.std.specs.Prelude.{◌≡◌, ◌≤◌, ◌<◌};
 
 use crate::number::{common_divisor, product, quotient};
 use crate::tableau::Tableau;
+use sm_certificate::{OutOfMemory, Program, Proposal};
 use sm_frac::{Frac, lcm_52};
-use sm_lp::{OutOfMemory, Program, Proposal};
 use std::alloc::{AllocError, Global};
 
 /// The greatest common denominator of a point.
@@ -158,8 +158,9 @@ fn ends_of(
     common: i64,
 ) -> Result<Vec<i128>, AllocError> {
     let mut point = Vec::new(alloc);
-    for j in 0..program.columns.len() {
-        point.push(end_of(tableau, j, &program.columns[j], common))?;
+    let columns = program.columns.as_slice();
+    for j in 0..columns.len() {
+        point.push(end_of(tableau, j, &columns[j], common))?;
     }
     Ok(point)
 }

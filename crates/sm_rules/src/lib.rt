@@ -6,8 +6,6 @@ mod laws;
 mod log_state;
 mod node;
 mod objectives;
-#[cfg(test)]
-mod tests;
 mod tree;
 mod violation;
 

@@ -14,6 +14,10 @@ use Rattle.sm_frac.specs.declared.fraction.Frac.{Frac}
 use Rattle.sm_frac.specs.Lowest.{IsLowest}
 use Rattle.sm_frac.proofs.Deciding.{IsFraction, fraction_or_not}
 use Rattle.sm_step.specs.Fractions.{fraction_of, from_parts}
+use Rattle.std.specs.Prelude.{ℕ, List, [], Bool, Ok, Err, if◌then◌else◌}
+use Rattle.sm_step.specs.PartReading.{is_above_one, fraction_over}
+use lib.Signed.{lt_z}
+use Rattle.sm_step.specs.Taking.{Place, takes, Takes}
 
 abbrev made : (n d : ℤ) → pos 0 <ℤ d → unsigned_abs n < 2 ^ 127 → unsigned_abs d < 2 ^ 127 → IsLowest n d → Frac
 made n d p b s l = record { n = n; d = d; positive = p; bounded = b; small = s; lowest = l }
@@ -78,3 +82,29 @@ fraction_again f = pick (fraction_or_not f.n f.d)
     pick : (t : IsFraction f.n f.d ⊎ (IsFraction f.n f.d → ⊥)) → from_parts f.n f.d t ≡ Some f
     pick (inl h) = ap Some (same_fraction (record { n = f.n; d = f.d; positive = h.positive; bounded = h.bounded; small = h.small; lowest = h.lowest }) f refl refl)
     pick (inr fails) = absurd (fails (record { positive = f.positive; bounded = f.bounded; small = f.small; lowest = f.lowest }))
+
+-- ---- a fraction that is read
+
+pub at_most_one : (d : ℤ) → lt_z d (pos 2) ≡ true → is_above_one d ≡ false
+at_most_one (pos n) h = grind (arith, nat_tests)
+at_most_one (negsuc n) h = refl
+
+pub small_denominator : (n d : ℤ) (bytes : List ℕ) → is_above_one d ≡ false → (if is_above_one d then fraction_over n d bytes else None) ≡ None
+small_denominator n d bytes e = rw e refl
+
+pub no_fraction : (n d : ℤ) (bytes : List ℕ) → fraction_of n d ≡ None → fraction_over n d bytes ≡ None
+no_fraction n d bytes e = rw e refl
+
+pub no_proper_fraction : (n d : ℤ) (bytes : List ℕ) → fraction_of n d ≡ None → (if is_above_one d then fraction_over n d bytes else None) ≡ None
+no_proper_fraction n d bytes e = pick (is_above_one d)
+  where
+    pick : (t : Bool) → (if t then fraction_over n d bytes else None) ≡ None
+    pick true = rw e refl
+    pick false = refl
+
+pub fraction_taken : (n d : ℤ) {f : Frac} {p : Place} → fraction_of n d ≡ Some f → Takes (fraction_over n d) [] p f p
+fraction_taken n d {f} {p} e = record { is = pick p }
+  where
+    pick : (p : Place) → takes (fraction_over n d) [] p f p
+    pick (Ok bytes) = (rw e refl, refl)
+    pick (Err fault) = refl

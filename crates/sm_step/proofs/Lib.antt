@@ -4,7 +4,10 @@ pub mod ExactRows
 pub mod FracParts
 pub mod Fronts
 pub mod Lines
+pub mod Listing
 pub mod Numbers
 pub mod Refusals
 pub mod Repeated
 pub mod Rising
+pub mod Rows
+pub mod Takings

@@ -26,7 +26,12 @@ use Rattle.sm_step.specs.RowText.{column_text, row_text, terms_text}
 use Rattle.sm_step.specs.RuleText.{rule_text, outcome_text}
 use Rattle.sm_step.specs.Text.{listed_text, pattern_text, program_text, operation_text, best_text, verdict_text, body_text, text_of}
 use Rattle.sm_step.specs.Grammar.{IsLongNumber, IsNumber, IsList, IsLiteral, IsSome, IsDenominator, AreValues, ArePrices, IsColumn, FollowInOrder, AreColumns, IsRow, IsTerm, IsRule, IsOutcome, IsListed, IsPattern, IsProgram, IsBest, IsVerdict, IsInRange, IsShort, IsLine}
-use Rattle.sm_step.specs.Reading.{EndsNumber, rest_behind, rest_behind_none}
+use Rattle.std.specs.Prelude.{Result, Ok, Err, IsOk, IfOk, IfErr, IfSome, IfNone}
+use Rattle.std.proofs.lemmas.List.{append-nil}
+use Rattle.sm_step.specs.declared.refusal.LineRefusal.{LineRefusal}
+use Rattle.sm_step.specs.declared.refusal.LineRefusal.TheVariants.{BadLine, OutOfMemory}
+use Rattle.sm_step.specs.Taking.{Place, takes, Takes}
+use Rattle.sm_step.specs.Reading.{EndsNumber, rest_behind, rest_behind_none, done, follow, choose, ahead, behind, end_in}
 use Rattle.sm_step.specs.PartReading.{literal_in}
 use Rattle.sm_step.specs.RowReading.{column_in}
 use Rattle.sm_step.specs.LineReading.{listed_pattern_in, pattern_in, program_in, operation_in, best_in, bound_in, verdict_in, node_in, infer_in, lemma_in, cutoff_in, close_in, step_in, norange_in, packing_in, price_in, cut_in, seldom_in, relaxed_in, body_in, line_in}
@@ -71,9 +76,6 @@ is_line l bytes here e fine = (here, short bytes l e fine)
 -- one text is read as one line
 one_read : (l k : Line) (read : Option (Line × List ℕ)) → read ≡ Some (l, []) → read ≡ Some (k, []) → l ≡ k
 one_read l k read e f = let pair : ◌≡◌ {A = Line × List ℕ} (l, []) (k, []) = cc in ap (λ (r : Line × List ℕ). r.0) pair
-
-pub refused_line : (l k : Line) (bytes : List ℕ) (test : Bool) → line_in bytes ≡ Some (k, []) → IsTrue test ↔ IsInRange k → test ≡ false → line_in bytes ≡ Some (l, []) → IsInRange l → ⊥
-refused_line l k bytes test read is fails other here = let t = is.1 (subst IsInRange (one_read l k (line_in bytes) other read) here) in absurd (cc)
 
 -- ---- parts of some kinds of lines
 
@@ -279,6 +281,55 @@ body_next _ is = absurd is
 pub line_exact : (l : Line) (bytes : List ℕ) → IsLine l → bytes ≡ text_of l → line_in bytes ≡ Some (l, [])
 unfolding line_in text_of
 line_exact l bytes is e = rw (e, body_next l (line_in_range l is)) refl
+
+-- nothing stands behind a line that was read
+nothing_behind : (bytes rest : List ℕ) (l : Line) → line_in bytes ≡ Some (l, rest) → rest ≡ []
+unfolding line_in
+nothing_behind bytes rest l h = pick (body_in bytes) h
+  where
+    last : (k : Line) (r : List ℕ) → choose (end_in r) (done k) None ≡ Some (l, rest) → rest ≡ []
+    last k [] h = let pair : ◌≡◌ {A = Line × List ℕ} (k, []) (l, rest) = cc in sym (ap (λ (r : Line × List ℕ). r.1) pair)
+    last k (b ∷ bs) h = absurd (cc)
+
+    mid : (k : Line) (o : Option (List ℕ)) → choose o (ahead end_in (done k)) None ≡ Some (l, rest) → rest ≡ []
+    mid k None h = absurd (cc)
+    mid k (Some r) h = last k r h
+
+    pick : (o : Option (Line × List ℕ)) → follow o (λ k. behind (codes "\n") (ahead end_in (done k))) ≡ Some (l, rest) → rest ≡ []
+    pick None h = absurd (cc)
+    pick (Some f) h = mid f.0 (rest_behind (codes "\n") f.1) h
+
+-- ---- what is answered for bytes that a reader went through
+
+pub line_found : (bytes : List ℕ) (k : Line) (new : Place) (refusal : Option LineRefusal) (r : Result Line LineRefusal) → Takes line_in (text_of k) (Ok bytes) k new
+    → IfNone refusal (IsOk new × IsInRange k) → IfNone refusal (r ≡ Ok k) → IfSome refusal (λ why. r ≡ Err why)
+    → (2 ^ 24 < length bytes → rest_behind (codes "norange ") bytes ≡ None → ⊥) → IfOk r (λ l. IsLine l × (bytes ≡ text_of l))
+line_found bytes k new (Some why) r read fine ok err few = rw err tt
+line_found bytes k new None r read fine ok err few = rw ok (pick new read.is fine)
+  where
+    pick : (new : Place) → takes line_in (text_of k) (Ok bytes) k new → IsOk new × IsInRange k → IsLine k × (bytes ≡ text_of k)
+    pick (Ok rest) h is = let none = nothing_behind bytes rest k h.0 in let text : bytes ≡ text_of k = h.1 ∙ ap (λ (t : List ℕ). text_of k ++ t) none ∙ append-nil (text_of k) in (is_line k bytes is.1 text few, text)
+    pick (Err fault) h is = absurd (let no = is.0 in cc)
+
+pub line_bad : (bytes : List ℕ) (k l : Line) (new : Place) (refusal : Option LineRefusal) (r : Result Line LineRefusal) → Takes line_in (text_of k) (Ok bytes) k new
+    → (refusal ≡ Some BadLine → IsOk new → IsInRange k → ⊥) → IfSome refusal (λ fault. IfErr new (λ first. fault ≡ first)) → IfNone refusal (r ≡ Ok k) → IfSome refusal (λ why. r ≡ Err why)
+    → r ≡ Err BadLine → IsLine l → bytes ≡ text_of l → ⊥
+line_bad bytes k l new None r read bad first ok err e is text = let both : ◌≡◌ {A = Result Line LineRefusal} (Ok k) (Err BadLine) = sym ok ∙ e in absurd (cc)
+line_bad bytes k l new (Some why) r read bad first ok err e is text = pick new read.is first (λ n. bad (ap Some same) n)
+  where
+    same : why ≡ BadLine
+    same = let both : ◌≡◌ {A = Result Line LineRefusal} (Err why) (Err BadLine) = sym err ∙ e in cc
+
+    exact : line_in bytes ≡ Some (l, [])
+    exact = line_exact l bytes is text
+
+    pick : (new : Place) → takes line_in (text_of k) (Ok bytes) k new → IfErr new (λ fault. why ≡ fault) → (IsOk new → IsInRange k → ⊥) → ⊥
+    pick (Err BadLine) h f b = let read = exact in absurd (cc)
+    pick (Err OutOfMemory) h f b = let bad = same in absurd (cc)
+    pick (Ok rest) h f b =
+        let read = exact in
+        let pair : ◌≡◌ {A = Line × List ℕ} (k, rest) (l, []) = cc in
+        b refl (subst IsInRange (sym (ap (λ (r : Line × List ℕ). r.0) pair)) (line_in_range l is))
 
 -- two lines of the grammar have different texts
 pub one_text : (l k : Line) → IsLine l → IsLine k → text_of l ≡ text_of k → l ≡ k

@@ -8,5 +8,6 @@ pub mod RowReading
 pub mod RowText
 pub mod RuleReading
 pub mod RuleText
+pub mod Taking
 pub mod Text
 pub mod Verdicts

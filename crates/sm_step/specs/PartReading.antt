@@ -5,7 +5,7 @@ use Rattle.sm_flat.specs.declared.literal.Literal.{Literal}
 use Rattle.sm_flat.specs.declared.literal.Test.{Test}
 use Rattle.sm_flat.specs.declared.literal.Test.TheVariants.{AtMost, AtLeast, Equal, Unequal}
 use Rattle.sm_step.specs.Fractions.{fraction_of}
-use Rattle.sm_step.specs.Reading.{Reads, done, ◌>>=◌, rest_behind, choose, behind, whole_in, narrow_in, natural_in, each_in, joined_in}
+use Rattle.sm_step.specs.Reading.{Reads, done, ◌>>=◌, rest_behind, either, behind, whole_in, narrow_in, natural_in, each_in, joined_in}
 
 abbrev pub is_above_one : ℤ → Bool
 is_above_one (pos n) = nat_lt 1 n
@@ -19,7 +19,7 @@ abbrev pub denominator_in : ℤ → Reads Frac
 denominator_in n = whole_in >>= λ d bytes. if is_above_one d then fraction_over n d bytes else None
 
 unfoldable pub fraction_in : Reads Frac
-fraction_in = whole_in >>= λ n bytes. choose (rest_behind (codes "/") bytes) (denominator_in n) (fraction_over n (pos 1) bytes)
+fraction_in = whole_in >>= λ n. either (rest_behind (codes "/")) (denominator_in n) (fraction_over n (pos 1))
 
 -- one or more fractions joined by commas
 abbrev pub value_in : Reads (List Frac)
@@ -27,8 +27,10 @@ value_in = joined_in 44 fraction_in
 
 -- `<=`, `>=`, `=` or `!=`
 unfoldable pub test_in : Reads Test
-test_in bytes = choose (rest_behind (codes "<=") bytes) (done AtMost) (choose (rest_behind (codes ">=") bytes) (done AtLeast)
-    (choose (rest_behind (codes "=") bytes) (done Equal) (behind (codes "!=") (done Unequal) bytes)))
+test_in = either (rest_behind (codes "<=")) (done AtMost)
+    (either (rest_behind (codes ">=")) (done AtLeast)
+    (either (rest_behind (codes "=")) (done Equal)
+    (behind (codes "!=") (done Unequal))))
 
 unfoldable pub literal_in : Reads Literal
 literal_in = behind (codes "v") (natural_in (2 ^ 32) >>= λ var. test_in >>= λ test. narrow_in >>= λ bound. done (record { var = var; test = test; bound = bound }))

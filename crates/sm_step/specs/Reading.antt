@@ -33,9 +33,17 @@ abbrev pub choose : {X : Type 0} → Option (List ℕ) → Reads X → Option (X
 choose None part other = other
 choose (Some rest) part other = part rest
 
+-- one part behind what this front passes over, and another where it isn't there
+abbrev pub either : {X : Type 0} → (List ℕ → Option (List ℕ)) → Reads X → Reads X → Reads X
+either front part other bytes = choose (front bytes) part (other bytes)
+
+-- a part behind what this front passes over
+abbrev pub ahead : {X : Type 0} → (List ℕ → Option (List ℕ)) → Reads X → Reads X
+ahead front part bytes = choose (front bytes) part None
+
 -- a part behind this text
 abbrev pub behind : {X : Type 0} → List ℕ → Reads X → Reads X
-behind text part bytes = choose (rest_behind text bytes) part None
+behind text = ahead (rest_behind text)
 
 abbrev pub is_digit : ℕ → Bool
 is_digit b = is_in_range 48 57 b
@@ -114,7 +122,7 @@ rest_behind_none bytes = option_and_then unless_digit (rest_behind (codes "-") b
 
 -- parts with a mark between them, or a `-` for none
 unfoldable pub listed_in : {X : Type 0} → ℕ → Reads X → Reads (List X)
-listed_in mark part bytes = choose (rest_behind_none bytes) (done []) (joined_in mark part bytes)
+listed_in mark part = either rest_behind_none (done []) (joined_in mark part)
 
 -- a number of 32 bits
 abbrev pub number_in : Reads ℕ
@@ -127,3 +135,8 @@ list_in = listed_in 44 number_in
 -- whole numbers joined by commas, or a `-` for none
 abbrev pub prices_in : Reads (List ℤ)
 prices_in = listed_in 44 whole_in
+
+-- nothing, at the end of the text
+abbrev pub end_in : List ℕ → Option (List ℕ)
+end_in [] = Some []
+end_in (b ∷ bs) = None

@@ -4,12 +4,13 @@ use Rattle.sm_step.specs.declared.line.Outcome.{Outcome}
 use Rattle.sm_step.specs.declared.line.Outcome.TheVariants.{Close, Literals}
 use Rattle.sm_step.specs.declared.rule.Rule.{Rule}
 use Rattle.sm_step.specs.declared.rule.Rule.TheVariants as rule
-use Rattle.sm_step.specs.Reading.{Reads, done, ◌>>=◌, rest_behind, choose, behind, whole_in, number_in, list_in, joined_in}
+use Rattle.sm_step.specs.Reading.{Reads, done, ◌>>=◌, rest_behind, either, behind, whole_in, number_in, list_in, joined_in}
 use Rattle.sm_step.specs.PartReading.{literal_in}
 
 -- a task's number, or a `-` for none
 unfoldable pub task_in : Reads (Option ℕ)
-task_in bytes = choose (rest_behind (codes "-") bytes) (done None) ((number_in >>= λ task. done (Some task)) bytes)
+task_in = either (rest_behind (codes "-")) (done None)
+    (number_in >>= λ task. done (Some task))
 
 -- two numbers with a space between them
 unfoldable pub two_numbers_in : Reads (ℕ × ℕ)
@@ -29,29 +30,30 @@ time_rule_in = number_in >>= λ k. behind (codes " ") (whole_in >>= λ moment. b
 
 -- the rules of scheduling
 unfoldable pub task_rule_in : Reads Rule
-task_rule_in bytes = choose (rest_behind (codes "time ") bytes) time_rule_in
-    (choose (rest_behind (codes "energy ") bytes) (number_and_list_in >>= λ p. done (rule.Energy p.0 p.1))
-    (choose (rest_behind (codes "load ") bytes) (number_and_list_in >>= λ p. done (rule.Load p.0 p.1))
-    (choose (rest_behind (codes "after ") bytes) (order_in >>= λ o. done (rule.After o.0 o.1 o.2 o.3))
-    (behind (codes "before ") (order_in >>= λ o. done (rule.Before o.0 o.1 o.2 o.3)) bytes))))
+task_rule_in = either (rest_behind (codes "time ")) time_rule_in
+    (either (rest_behind (codes "energy ")) (number_and_list_in >>= λ p. done (rule.Energy p.0 p.1))
+    (either (rest_behind (codes "load ")) (number_and_list_in >>= λ p. done (rule.Load p.0 p.1))
+    (either (rest_behind (codes "after ")) (order_in >>= λ o. done (rule.After o.0 o.1 o.2 o.3))
+    (behind (codes "before ") (order_in >>= λ o. done (rule.Before o.0 o.1 o.2 o.3))))))
 
 -- the rules of values, packing and circuits
 unfoldable pub value_rule_in : Reads Rule
-value_rule_in bytes = choose (rest_behind (codes "elem ") bytes) (number_in >>= λ k. done (rule.Elem k))
-    (choose (rest_behind (codes "isum ") bytes) (number_in >>= λ k. done (rule.Isum k))
-    (choose (rest_behind (codes "cap ") bytes) (two_numbers_in >>= λ p. done (rule.Cap p.0 p.1))
-    (choose (rest_behind (codes "pay ") bytes) (number_in >>= λ k. done (rule.Pay k))
-    (choose (rest_behind (codes "chain ") bytes) (two_numbers_in >>= λ p. done (rule.Chain p.0 p.1))
-    (task_rule_in bytes)))))
+value_rule_in = either (rest_behind (codes "elem ")) (number_in >>= λ k. done (rule.Elem k))
+    (either (rest_behind (codes "isum ")) (number_in >>= λ k. done (rule.Isum k))
+    (either (rest_behind (codes "cap ")) (two_numbers_in >>= λ p. done (rule.Cap p.0 p.1))
+    (either (rest_behind (codes "pay ")) (number_in >>= λ k. done (rule.Pay k))
+    (either (rest_behind (codes "chain ")) (two_numbers_in >>= λ p. done (rule.Chain p.0 p.1))
+    (task_rule_in)))))
 
 -- the other rules, or one of these
 unfoldable pub rule_in : Reads Rule
-rule_in bytes = choose (rest_behind (codes "sum ") bytes) (two_numbers_in >>= λ p. done (rule.Sum p.0 p.1))
-    (choose (rest_behind (codes "clause ") bytes) (two_numbers_in >>= λ p. done (rule.Clause p.0 p.1))
-    (choose (rest_behind (codes "when ") bytes) (two_numbers_in >>= λ p. done (rule.When p.0 p.1))
-    (choose (rest_behind (codes "hall ") bytes) (number_and_list_in >>= λ p. done (rule.Hall p.0 p.1))
-    (value_rule_in bytes))))
+rule_in = either (rest_behind (codes "sum ")) (two_numbers_in >>= λ p. done (rule.Sum p.0 p.1))
+    (either (rest_behind (codes "clause ")) (two_numbers_in >>= λ p. done (rule.Clause p.0 p.1))
+    (either (rest_behind (codes "when ")) (two_numbers_in >>= λ p. done (rule.When p.0 p.1))
+    (either (rest_behind (codes "hall ")) (number_and_list_in >>= λ p. done (rule.Hall p.0 p.1))
+    (value_rule_in))))
 
 -- `close`, or literals with spaces between them
 unfoldable pub outcome_in : Reads Outcome
-outcome_in bytes = choose (rest_behind (codes "close") bytes) (done Close) ((joined_in 32 literal_in >>= λ literals. done (Literals literals)) bytes)
+outcome_in = either (rest_behind (codes "close")) (done Close)
+    (joined_in 32 literal_in >>= λ literals. done (Literals literals))

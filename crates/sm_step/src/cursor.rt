@@ -1,26 +1,29 @@
-//! A text that is read from the left.
-ghost use Rattle.std.specs.Prelude.{◌≡◌, ◌≤◌, ◌^◌, ◌++◌, [], pos, Some, None, Err, true, false, IfOk, IfSome, IfNone, OnOk, codes, length};
+//! A text that is read from the left, up to the first fault. Behind a fault nothing more is read: what is answered then
+//! is of no use, and the fault stays. So a reader is straight-line code, and the fault is asked for once, at its end.
+ghost use Rattle.std.specs.Prelude.{◌≡◌, ◌≤◌, ◌^◌, ◌++◌, [], pos, Some, None, Ok, Err, true, false, IsOk, IfSome, IfNone, codes, length};
 ghost use Rattle.std.specs.List.{prefix_len};
 ghost use Rattle.sm_base.specs.Whole.{whole_text};
-ghost use Rattle.sm_step.specs.Reading.{is_digit, begins_with_digit, whole_length, whole_in, number_in, natural_in, narrow_in, rest_behind, rest_behind_none};
-ghost use Rattle.sm_step.specs.declared.refusal.LineRefusal.TheVariants.{BadLine};
+ghost use Rattle.sm_step.specs.Reading.{is_digit, begins_with_digit, whole_length, whole_in, number_in, natural_in, narrow_in, rest_behind, rest_behind_none, end_in};
+ghost use Rattle.sm_step.specs.Taking.{failed, Accepts, Passes, Takes};
+ghost use Rattle.sm_step.specs.declared.refusal.LineRefusal.TheVariants.{BadLine, OutOfMemory as NoMemory};
 
 use crate::refusal::LineRefusal;
 use sm_base::read_whole;
 use std::marker::Model;
 
-/// The rest of a text. Contracts see the bytes that are still to come.
+/// The rest of a text, or the first fault. Contracts see the bytes that are still to come, or the fault.
 #[derive(Drop)]
 pub(crate) struct Cursor<'a> {
     rest: &'a [u8],
+    fault: Option<LineRefusal>,
 }
 
 impl<'a> Model for Cursor<'a> {
-    ghost use Rattle.std.specs.Prelude.{List, ℕ};
+    ghost use Rattle.sm_step.specs.Taking.{Place, place};
 
-    ghost Value = { List ℕ };
+    ghost Value = { Place };
 
-    ghost view = { λ r. r.rest.now };
+    ghost view = { λ r. place r.fault r.rest.now };
 }
 
 /// How many of the first bytes are digits.
@@ -63,30 +66,76 @@ fn next_whole(bytes: &[u8]) -> Option<(i128, &[u8])>
     Some((number, rest))
 }
 
+/// What stands behind a `-` that is no number's sign.
+#[tactic(auto, unfolding(crate::specs::Reading::rest_behind_none))]
+fn behind_none(bytes: &[u8]) -> Option<&[u8]>
+    ensures some { IfSome result (λ r. rest_behind_none bytes.now ≡ Some r.now) }
+    ensures found { IfSome result (λ r. bytes.now ≡ codes "-" ++ r.now) }
+    ensures none { IfNone result (rest_behind_none bytes.now ≡ None) }
+{
+    let rest = behind(bytes, b"-")?;
+    if begins_with_digit(rest) {
+        return None;
+    }
+    Some(rest)
+}
+
+/// What stands behind a text.
+fn behind<'a>(bytes: &'a [u8], text: &[u8]) -> Option<&'a [u8]>
+    ensures some { IfSome result (λ r. rest_behind text.now bytes.now ≡ Some r.now) }
+    ensures found { IfSome result (λ r. bytes.now ≡ text.now ++ r.now) }
+    ensures none { IfNone result (rest_behind text.now bytes.now ≡ None) }
+{
+    match bytes.strip_prefix(text) {
+        Some(rest) => Some(rest),
+        None => None,
+    }
+}
+
 impl<'a> Cursor<'a> {
     /// At the front of a text.
     pub(crate) fn new(text: &'a [u8]) -> Cursor<'a>
-        ensures { result ≡ text.now }
+        ensures { result ≡ Ok text.now }
     {
-        Cursor { rest: text }
+        Cursor {
+            rest: text,
+            fault: None,
+        }
     }
 
-    /// Whether the text is at its end.
-    pub(crate) fn is_at_end(&self) -> bool
-        ensures yes { result ≡ true → self.now ≡ [] }
-        ensures no { result ≡ false → self.now ≡ [] → ⊥ }
+    /// The first fault, if there was one.
+    pub(crate) fn fault(&self) -> Option<LineRefusal>
+        ensures none { IfNone result (IsOk self.now) }
+        ensures some { IfSome result (λ fault. self.now ≡ Err fault) }
     {
-        self.rest.is_empty()
+        self.fault
     }
 
-    /// Passes over a text, if it comes next.
-    pub(crate) fn accept(&mut self, text: &[u8]) -> bool
-        ensures taken { result ≡ true → rest_behind text.now self.old ≡ Some self.new }
-        ensures found { result ≡ true → self.old ≡ text.now ++ self.new }
-        ensures absent { result ≡ false → rest_behind text.now self.old ≡ None }
-        ensures kept { result ≡ false → self.new ≡ self.old }
+    /// The text is no line.
+    pub(crate) fn refuse(&mut self)
+        ensures { self.new ≡ failed BadLine self.old }
     {
-        match self.rest.strip_prefix(text) {
+        if self.fault.is_none() {
+            self.fault = Some(LineRefusal::BadLine);
+        }
+    }
+
+    /// Memory ran out.
+    pub(crate) fn run_out(&mut self)
+        ensures { self.new ≡ failed NoMemory self.old }
+    {
+        if self.fault.is_none() {
+            self.fault = Some(LineRefusal::OutOfMemory);
+        }
+    }
+
+    /// Goes on behind what a front passed over.
+    fn go_on(&mut self, rest: Option<&'a [u8]>) -> bool
+        requires { IsOk self.old }
+        ensures some { IfSome rest.entry (λ r. (result ≡ true) × (self.new ≡ Ok r.now)) }
+        ensures none { IfNone rest.entry ((result ≡ false) × (self.new ≡ self.old)) }
+    {
+        match rest {
             Some(rest) => {
                 self.rest = rest;
                 true
@@ -95,78 +144,100 @@ impl<'a> Cursor<'a> {
         }
     }
 
-    /// Passes over a `-` that is no number's sign, if it comes next.
-    #[tactic(auto, unfolding(crate::specs::Reading::rest_behind_none))]
-    pub(crate) fn accept_none(&mut self) -> bool
-        ensures taken { result ≡ true → rest_behind_none self.old ≡ Some self.new }
-        ensures found { result ≡ true → self.old ≡ codes "-" ++ self.new }
-        ensures absent { result ≡ false → rest_behind_none self.old ≡ None }
-        ensures kept { result ≡ false → self.new ≡ self.old }
+    /// Passes over a text, if it comes next.
+    pub(crate) fn accept(&mut self, text: &[u8]) -> bool
+        ensures { Accepts (rest_behind text.now) text.now self.old result self.new }
     {
-        let Some(rest) = self.rest.strip_prefix(b"-") else {
-            return false;
-        };
-        if begins_with_digit(rest) {
+        if self.fault.is_some() {
             return false;
         }
-        self.rest = rest;
-        true
+        self.go_on(behind(self.rest, text))
+    }
+
+    /// Passes over a `-` that is no number's sign, if it comes next.
+    pub(crate) fn accept_none(&mut self) -> bool
+        ensures { Accepts rest_behind_none (codes "-") self.old result self.new }
+    {
+        if self.fault.is_some() {
+            return false;
+        }
+        self.go_on(behind_none(self.rest))
     }
 
     /// Passes over a text.
-    pub(crate) fn expect(&mut self, text: &[u8]) -> Result<(), LineRefusal>
-        ensures found { OnOk result (self.old ≡ text.now ++ self.new) }
-        ensures some { OnOk result (rest_behind text.now self.old ≡ Some self.new) }
-        ensures none { result ≡ Err BadLine → rest_behind text.now self.old ≡ None }
+    pub(crate) fn expect(&mut self, text: &[u8])
+        ensures { Passes (rest_behind text.now) text.now self.old self.new }
     {
-        if self.accept(text) {
-            Ok(())
-        } else {
-            Err(LineRefusal::BadLine)
+        if !self.accept(text) {
+            self.refuse();
+        }
+    }
+
+    /// Passes over the end.
+    pub(crate) fn end(&mut self)
+        ensures { Passes end_in [] self.old self.new }
+    {
+        if !self.rest.is_empty() {
+            self.refuse();
         }
     }
 
     /// Reads a whole number.
-    pub(crate) fn whole(&mut self) -> Result<i128, LineRefusal>
-        ensures found { IfOk result (λ z. self.old ≡ whole_text z ++ self.new) }
-        ensures some { IfOk result (λ z. whole_in self.old ≡ Some (z, self.new)) }
-        ensures none { result ≡ Err BadLine → whole_in self.old ≡ None }
+    pub(crate) fn whole(&mut self) -> i128
+        ensures { Takes whole_in (whole_text result) self.old result self.new }
     {
-        let Some((number, rest)) = next_whole(self.rest) else {
-            return Err(LineRefusal::BadLine);
-        };
-        self.rest = rest;
-        Ok(number)
+        if self.fault.is_some() {
+            return 0;
+        }
+        match next_whole(self.rest) {
+            Some((number, rest)) => {
+                self.rest = rest;
+                number
+            }
+            None => {
+                self.fault = Some(LineRefusal::BadLine);
+                0
+            }
+        }
     }
 
     /// Reads a number of 32 bits.
-    pub(crate) fn number(&mut self) -> Result<u32, LineRefusal>
-        ensures found { IfOk result (λ n. self.old ≡ whole_text (pos n) ++ self.new) }
-        ensures some { IfOk result (λ n. number_in self.old ≡ Some (n, self.new)) }
-        ensures none { result ≡ Err BadLine → number_in self.old ≡ None }
+    pub(crate) fn number(&mut self) -> u32
+        ensures { Takes number_in (whole_text (pos result)) self.old result self.new }
     {
-        let number = self.whole()?;
-        u32::try_from(number).or(Err(LineRefusal::BadLine))
+        match u32::try_from(self.whole()) {
+            Ok(number) => number,
+            Err(_) => {
+                self.refuse();
+                0
+            }
+        }
     }
 
     /// Reads a number of 64 bits.
-    pub(crate) fn long_number(&mut self) -> Result<u64, LineRefusal>
-        ensures found { IfOk result (λ n. self.old ≡ whole_text (pos n) ++ self.new) }
-        ensures some { IfOk result (λ n. natural_in (2 ^ 64) self.old ≡ Some (n, self.new)) }
-        ensures none { result ≡ Err BadLine → natural_in (2 ^ 64) self.old ≡ None }
+    pub(crate) fn long_number(&mut self) -> u64
+        ensures { Takes (natural_in (2 ^ 64)) (whole_text (pos result)) self.old result self.new }
     {
-        let number = self.whole()?;
-        u64::try_from(number).or(Err(LineRefusal::BadLine))
+        match u64::try_from(self.whole()) {
+            Ok(number) => number,
+            Err(_) => {
+                self.refuse();
+                0
+            }
+        }
     }
 
     /// Reads a signed number of 64 bits.
     #[tactic(auto, unfolding(crate::specs::Reading::narrow_in))]
-    pub(crate) fn narrow(&mut self) -> Result<i64, LineRefusal>
-        ensures found { IfOk result (λ z. self.old ≡ whole_text z ++ self.new) }
-        ensures some { IfOk result (λ z. narrow_in self.old ≡ Some (z, self.new)) }
-        ensures none { result ≡ Err BadLine → narrow_in self.old ≡ None }
+    pub(crate) fn narrow(&mut self) -> i64
+        ensures { Takes narrow_in (whole_text result) self.old result self.new }
     {
-        let number = self.whole()?;
-        i64::try_from(number).or(Err(LineRefusal::BadLine))
+        match i64::try_from(self.whole()) {
+            Ok(number) => number,
+            Err(_) => {
+                self.refuse();
+                0
+            }
+        }
     }
 }

@@ -3,12 +3,12 @@ ghost use Rattle.std.specs.Prelude.{◌≡◌, ◌++◌, ◌≤ℤ◌, pos, code
 ghost use Rattle.sm_base.specs.Whole.{whole_text};
 ghost use Rattle.sm_step.specs.PartText.{fraction_text};
 ghost use Rattle.sm_step.specs.Fractions.{fraction_of};
-ghost use Rattle.sm_step.specs.PartReading.{fraction_in};
+ghost use Rattle.sm_step.specs.PartReading.{denominator_in, fraction_in};
+ghost use Rattle.sm_step.specs.Taking.{failed, Takes, TakesBehind};
 ghost use Rattle.sm_step.specs.declared.refusal.LineRefusal.TheVariants.{BadLine};
 
 use crate::cursor::Cursor;
 use crate::part::Part;
-use crate::refusal::LineRefusal;
 use sm_base::{OutOfMemory, push_whole};
 use sm_frac::Frac;
 use std::alloc::Global;
@@ -49,21 +49,39 @@ pub(crate) fn push_fraction(into: &mut Vec<u8>, fraction: &Frac) -> Result<(), O
     push_whole(into, fraction.d())
 }
 
-#[tactic(auto, unfolding(crate::specs::PartReading::fraction_in))]
-pub(crate) fn read_fraction(cursor: &mut Cursor<'_>) -> Result<Frac, LineRefusal>
-    ensures found { IfOk result (λ f. cursor.old ≡ fraction_text f ++ cursor.new) }
-    ensures some { IfOk result (λ f. fraction_in cursor.old ≡ Some (f, cursor.new)) }
-    ensures none { result ≡ Err BadLine → fraction_in cursor.old ≡ None }
+/// The line is bad; the fraction is any.
+fn refused(cursor: &mut Cursor<'_>) -> Frac
+    ensures { cursor.new ≡ failed BadLine cursor.old }
 {
-    let n = cursor.whole()?;
-    if !cursor.accept(b"/") {
-        return whole_fraction(n).ok_or(LineRefusal::BadLine);
-    }
-    let d = cursor.whole()?;
+    cursor.refuse();
+    Frac::whole(0)
+}
+
+/// Reads the denominator of a fraction that is no whole number.
+fn read_denominator(cursor: &mut Cursor<'_>, n: i128) -> Frac
+    ensures { TakesBehind (whole_text n ++ codes "/") (denominator_in n) (fraction_text result) cursor.old result cursor.new }
+{
+    let d = cursor.whole();
     if d < 2 {
-        return Err(LineRefusal::BadLine);
+        return refused(cursor);
     }
-    proper_fraction(n, d).ok_or(LineRefusal::BadLine)
+    match proper_fraction(n, d) {
+        Some(fraction) => fraction,
+        None => refused(cursor),
+    }
+}
+
+pub(crate) fn read_fraction(cursor: &mut Cursor<'_>) -> Frac
+    ensures { Takes fraction_in (fraction_text result) cursor.old result cursor.new }
+{
+    let n = cursor.whole();
+    if cursor.accept(b"/") {
+        return read_denominator(cursor, n);
+    }
+    match whole_fraction(n) {
+        Some(fraction) => fraction,
+        None => refused(cursor),
+    }
 }
 
 impl Part for Frac {
@@ -80,7 +98,7 @@ impl Part for Frac {
         push_fraction(into, self)
     }
 
-    fn read(_alloc: Global, cursor: &mut Cursor<'_>) -> Result<Frac, LineRefusal> {
+    fn read(_alloc: Global, cursor: &mut Cursor<'_>) -> Frac {
         read_fraction(cursor)
     }
 

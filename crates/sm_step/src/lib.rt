@@ -19,8 +19,6 @@ mod row_text;
 mod rule;
 mod rule_text;
 mod short;
-#[cfg(test)]
-mod tests;
 mod text;
 mod verdict;
 mod verdict_text;

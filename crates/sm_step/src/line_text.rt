@@ -5,7 +5,7 @@ ghost use Rattle.sm_step.specs.PartText.{number_text, prices_text, fraction_text
 ghost use Rattle.sm_step.specs.Text.{operation_text, body_text};
 ghost use Rattle.sm_step.specs.PartReading.{values_in};
 ghost use Rattle.sm_step.specs.LineReading.{node_in, infer_in, lemma_in, cutoff_in, close_in, step_in, norange_in, packing_in, price_in, cut_in, seldom_in, relaxed_in, body_in};
-ghost use Rattle.sm_step.specs.declared.refusal.LineRefusal.TheVariants.{BadLine};
+ghost use Rattle.sm_step.specs.Taking.{Takes, TakesBehind};
 
 use crate::cursor::Cursor;
 use crate::fraction::read_fraction;
@@ -13,7 +13,6 @@ use crate::line::Line;
 use crate::lists::{read_each, read_joined, read_listed};
 use crate::literal::read_literal;
 use crate::pattern_text::{read_operation, read_program};
-use crate::refusal::LineRefusal;
 use crate::row_text::read_row;
 use crate::rule_text::{read_outcome, read_rule};
 use crate::short::Short;
@@ -22,263 +21,221 @@ use sm_frac::{Frac, Op};
 use std::alloc::Global;
 
 /// Reads what stands behind `node `.
-#[tactic(auto, unfolding(crate::specs::LineReading::node_in))]
-fn read_node(cursor: &mut Cursor<'_>) -> Result<Line, LineRefusal>
-    ensures found { IfOk result (λ l. codes "node " ++ cursor.old ≡ body_text l ++ cursor.new) }
-    ensures some { IfOk result (λ l. node_in cursor.old ≡ Some (l, cursor.new)) }
-    ensures none { result ≡ Err BadLine → node_in cursor.old ≡ None }
+fn read_node(cursor: &mut Cursor<'_>) -> Line
+    ensures { TakesBehind (codes "node ") node_in (body_text result) cursor.old result cursor.new }
 {
-    let id = cursor.long_number()?;
-    cursor.expect(b" ")?;
-    let parent = cursor.long_number()?;
-    cursor.expect(b" ")?;
-    let literal = read_literal(cursor)?;
-    Ok(Line::Node {
+    let id = cursor.long_number();
+    cursor.expect(b" ");
+    let parent = cursor.long_number();
+    cursor.expect(b" ");
+    let literal = read_literal(cursor);
+    Line::Node {
         id,
         parent,
         literal,
-    })
+    }
 }
 
 /// Reads what stands behind `infer `.
-#[tactic(auto, unfolding(crate::specs::LineReading::infer_in))]
-fn read_infer(alloc: Global, cursor: &mut Cursor<'_>) -> Result<Line, LineRefusal>
-    ensures found { IfOk result (λ l. codes "infer " ++ cursor.old ≡ body_text l ++ cursor.new) }
-    ensures some { IfOk result (λ l. infer_in cursor.old ≡ Some (l, cursor.new)) }
-    ensures none { result ≡ Err BadLine → infer_in cursor.old ≡ None }
+fn read_infer(alloc: Global, cursor: &mut Cursor<'_>) -> Line
+    ensures { TakesBehind (codes "infer ") infer_in (body_text result) cursor.old result cursor.new }
 {
-    let rule = read_rule(alloc, cursor)?;
-    cursor.expect(b" -> ")?;
-    let result = read_outcome(alloc, cursor)?;
-    Ok(Line::Infer { rule, result })
+    let rule = read_rule(alloc, cursor);
+    cursor.expect(b" -> ");
+    let result = read_outcome(alloc, cursor);
+    Line::Infer { rule, result }
 }
 
 /// Reads what stands behind `lemma `.
-#[tactic(auto, unfolding(crate::specs::LineReading::lemma_in))]
-fn read_lemma(alloc: Global, cursor: &mut Cursor<'_>) -> Result<Line, LineRefusal>
-    ensures found { IfOk result (λ l. codes "lemma " ++ cursor.old ≡ body_text l ++ cursor.new) }
-    ensures some { IfOk result (λ l. lemma_in cursor.old ≡ Some (l, cursor.new)) }
-    ensures none { result ≡ Err BadLine → lemma_in cursor.old ≡ None }
+fn read_lemma(alloc: Global, cursor: &mut Cursor<'_>) -> Line
+    ensures { TakesBehind (codes "lemma ") lemma_in (body_text result) cursor.old result cursor.new }
 {
-    let lemma = cursor.long_number()?;
-    cursor.expect(b" -> ")?;
-    let result = read_outcome(alloc, cursor)?;
-    Ok(Line::Lemma { lemma, result })
+    let lemma = cursor.long_number();
+    cursor.expect(b" -> ");
+    let result = read_outcome(alloc, cursor);
+    Line::Lemma { lemma, result }
 }
 
 /// Reads what stands behind `cutoff `.
-#[tactic(auto, unfolding(crate::specs::LineReading::cutoff_in))]
-fn read_cutoff(alloc: Global, cursor: &mut Cursor<'_>) -> Result<Line, LineRefusal>
-    ensures found { IfOk result (λ l. codes "cutoff " ++ cursor.old ≡ body_text l ++ cursor.new) }
-    ensures some { IfOk result (λ l. cutoff_in cursor.old ≡ Some (l, cursor.new)) }
-    ensures none { result ≡ Err BadLine → cutoff_in cursor.old ≡ None }
+fn read_cutoff(alloc: Global, cursor: &mut Cursor<'_>) -> Line
+    ensures { TakesBehind (codes "cutoff ") cutoff_in (body_text result) cursor.old result cursor.new }
 {
-    let literal = read_literal(cursor)?;
+    let literal = read_literal(cursor);
     if cursor.accept(b" none") {
-        let terms = read_each(alloc, cursor, b' ')?;
-        return Ok(Line::CutoffNone { literal, terms });
+        let terms = read_each(alloc, cursor, b' ');
+        return Line::CutoffNone { literal, terms };
     }
-    cursor.expect(b" cost")?;
-    let terms = read_each(alloc, cursor, b' ')?;
-    Ok(Line::CutoffCost { literal, terms })
+    cursor.expect(b" cost");
+    let terms = read_each(alloc, cursor, b' ');
+    Line::CutoffCost { literal, terms }
 }
 
 /// Reads what stands behind `close `.
-#[tactic(auto, unfolding(crate::specs::LineReading::close_in))]
-fn read_close(alloc: Global, cursor: &mut Cursor<'_>) -> Result<Line, LineRefusal>
-    ensures found { IfOk result (λ l. codes "close " ++ cursor.old ≡ body_text l ++ cursor.new) }
-    ensures some { IfOk result (λ l. close_in cursor.old ≡ Some (l, cursor.new)) }
-    ensures none { result ≡ Err BadLine → close_in cursor.old ≡ None }
+fn read_close(alloc: Global, cursor: &mut Cursor<'_>) -> Line
+    ensures { TakesBehind (codes "close ") close_in (body_text result) cursor.old result cursor.new }
 {
     if cursor.accept(b"none") {
-        let terms = read_each(alloc, cursor, b' ')?;
-        return Ok(Line::CloseNone { terms });
+        let terms = read_each(alloc, cursor, b' ');
+        return Line::CloseNone { terms };
     }
     if cursor.accept(b"cost") {
-        let terms = read_each(alloc, cursor, b' ')?;
-        return Ok(Line::CloseCost { terms });
+        let terms = read_each(alloc, cursor, b' ');
+        return Line::CloseCost { terms };
     }
-    cursor.expect(b"floor")?;
-    Ok(Line::CloseFloor)
+    cursor.expect(b"floor");
+    Line::CloseFloor
 }
 
 /// Reads an operation and its operands.
-#[tactic(auto, unfolding(crate::specs::LineReading::step_in))]
-fn read_step(cursor: &mut Cursor<'_>) -> Result<(Op, Frac, Frac), LineRefusal>
-    ensures found { IfOk result (λ s. cursor.old ≡ operation_text s.0 ++ codes " " ++ fraction_text s.1 ++ codes " " ++ fraction_text s.2 ++ cursor.new) }
-    ensures some { IfOk result (λ s. step_in cursor.old ≡ Some (s, cursor.new)) }
-    ensures none { result ≡ Err BadLine → step_in cursor.old ≡ None }
+fn read_step(cursor: &mut Cursor<'_>) -> (Op, Frac, Frac)
+    ensures { Takes step_in (operation_text result.0 ++ codes " " ++ fraction_text result.1 ++ codes " " ++ fraction_text result.2) cursor.old result cursor.new }
 {
-    let op = read_operation(cursor)?;
-    cursor.expect(b" ")?;
-    let left = read_fraction(cursor)?;
-    cursor.expect(b" ")?;
-    let right = read_fraction(cursor)?;
-    Ok((op, left, right))
+    let op = read_operation(cursor);
+    cursor.expect(b" ");
+    let left = read_fraction(cursor);
+    cursor.expect(b" ");
+    let right = read_fraction(cursor);
+    (op, left, right)
 }
 
 /// Reads what stands behind `norange `.
-#[tactic(auto, unfolding(crate::specs::LineReading::norange_in))]
-fn read_norange(alloc: Global, cursor: &mut Cursor<'_>) -> Result<Line, LineRefusal>
-    ensures found { IfOk result (λ l. codes "norange " ++ cursor.old ≡ body_text l ++ cursor.new) }
-    ensures some { IfOk result (λ l. norange_in cursor.old ≡ Some (l, cursor.new)) }
-    ensures none { result ≡ Err BadLine → norange_in cursor.old ≡ None }
+fn read_norange(alloc: Global, cursor: &mut Cursor<'_>) -> Line
+    ensures { TakesBehind (codes "norange ") norange_in (body_text result) cursor.old result cursor.new }
 {
-    let of = read_program(alloc, cursor)?;
-    cursor.expect(b" ")?;
-    let basis = read_listed(alloc, cursor, b',')?;
-    cursor.expect(b" ")?;
-    let (op, left, right) = read_step(cursor)?;
-    Ok(Line::Norange {
+    let of = read_program(alloc, cursor);
+    cursor.expect(b" ");
+    let basis = read_listed(alloc, cursor, b',');
+    cursor.expect(b" ");
+    let (op, left, right) = read_step(cursor);
+    Line::Norange {
         of,
         basis,
         op,
         left,
         right,
-    })
+    }
 }
 
 /// Reads a constraint, a denominator and prices.
-#[tactic(auto, unfolding(crate::specs::LineReading::packing_in))]
-fn read_packing(
-    alloc: Global,
-    cursor: &mut Cursor<'_>,
-) -> Result<(u32, i64, Short<i128>), LineRefusal>
-    ensures found { IfOk result (λ p. cursor.old ≡ number_text p.0 ++ codes " " ++ whole_text p.1 ++ codes " " ++ prices_text p.2 ++ cursor.new) }
-    ensures some { IfOk result (λ p. packing_in cursor.old ≡ Some (p, cursor.new)) }
-    ensures none { result ≡ Err BadLine → packing_in cursor.old ≡ None }
+fn read_packing(alloc: Global, cursor: &mut Cursor<'_>) -> (u32, i64, Short<i128>)
+    ensures { Takes packing_in (number_text result.0 ++ codes " " ++ whole_text result.1 ++ codes " " ++ prices_text result.2) cursor.old result cursor.new }
 {
-    let k = cursor.number()?;
-    cursor.expect(b" ")?;
-    let denominator = cursor.narrow()?;
-    cursor.expect(b" ")?;
-    let prices = read_listed(alloc, cursor, b',')?;
-    Ok((k, denominator, prices))
+    let k = cursor.number();
+    cursor.expect(b" ");
+    let denominator = cursor.narrow();
+    cursor.expect(b" ");
+    let prices = read_listed(alloc, cursor, b',');
+    (k, denominator, prices)
 }
 
 /// Reads what stands behind `price `.
-#[tactic(auto, unfolding(crate::specs::LineReading::price_in))]
-fn read_price(alloc: Global, cursor: &mut Cursor<'_>) -> Result<Line, LineRefusal>
-    ensures found { IfOk result (λ l. codes "price " ++ cursor.old ≡ body_text l ++ cursor.new) }
-    ensures some { IfOk result (λ l. price_in cursor.old ≡ Some (l, cursor.new)) }
-    ensures none { result ≡ Err BadLine → price_in cursor.old ≡ None }
+fn read_price(alloc: Global, cursor: &mut Cursor<'_>) -> Line
+    ensures { TakesBehind (codes "price ") price_in (body_text result) cursor.old result cursor.new }
 {
-    let (k, denominator, prices) = read_packing(alloc, cursor)?;
-    cursor.expect(b" ")?;
-    let scale = cursor.narrow()?;
-    let patterns = read_each(alloc, cursor, b' ')?;
-    Ok(Line::Price {
+    let (k, denominator, prices) = read_packing(alloc, cursor);
+    cursor.expect(b" ");
+    let scale = cursor.narrow();
+    let patterns = read_each(alloc, cursor, b' ');
+    Line::Price {
         k,
         denominator,
         prices,
         scale,
         patterns,
-    })
+    }
 }
 
 /// Reads what stands behind `cut `.
-#[tactic(auto, unfolding(crate::specs::LineReading::cut_in))]
-fn read_cut(alloc: Global, cursor: &mut Cursor<'_>) -> Result<Line, LineRefusal>
-    ensures found { IfOk result (λ l. codes "cut " ++ cursor.old ≡ body_text l ++ cursor.new) }
-    ensures some { IfOk result (λ l. cut_in cursor.old ≡ Some (l, cursor.new)) }
-    ensures none { result ≡ Err BadLine → cut_in cursor.old ≡ None }
+fn read_cut(alloc: Global, cursor: &mut Cursor<'_>) -> Line
+    ensures { TakesBehind (codes "cut ") cut_in (body_text result) cursor.old result cursor.new }
 {
     if cursor.accept(b"gomory") {
-        let terms = read_each(alloc, cursor, b' ')?;
-        return Ok(Line::CutGomory { terms });
+        let terms = read_each(alloc, cursor, b' ');
+        return Line::CutGomory { terms };
     }
     if cursor.accept(b"cover ") {
-        let row = read_row(alloc, cursor)?;
-        cursor.expect(b" ")?;
-        let columns = read_joined(alloc, cursor, b',')?;
-        return Ok(Line::CutCover { row, columns });
+        let row = read_row(alloc, cursor);
+        cursor.expect(b" ");
+        let columns = read_joined(alloc, cursor, b',');
+        return Line::CutCover { row, columns };
     }
-    cursor.expect(b"leave ")?;
-    let k = cursor.number()?;
-    cursor.expect(b" ")?;
-    let nodes = read_listed(alloc, cursor, b',')?;
-    Ok(Line::CutLeave { k, nodes })
+    cursor.expect(b"leave ");
+    let k = cursor.number();
+    cursor.expect(b" ");
+    let nodes = read_listed(alloc, cursor, b',');
+    Line::CutLeave { k, nodes }
 }
 
 /// Reads a denominator and numerators.
-#[tactic(auto, unfolding(crate::specs::PartReading::values_in))]
-fn read_values(alloc: Global, cursor: &mut Cursor<'_>) -> Result<(i64, Short<i128>), LineRefusal>
-    ensures found { IfOk result (λ v. cursor.old ≡ whole_text v.0 ++ spaced v.1 ++ cursor.new) }
-    ensures some { IfOk result (λ v. values_in cursor.old ≡ Some (v, cursor.new)) }
-    ensures none { result ≡ Err BadLine → values_in cursor.old ≡ None }
+fn read_values(alloc: Global, cursor: &mut Cursor<'_>) -> (i64, Short<i128>)
+    ensures { Takes values_in (whole_text result.0 ++ spaced result.1) cursor.old result cursor.new }
 {
-    let denominator = cursor.narrow()?;
-    let values = read_each(alloc, cursor, b' ')?;
-    Ok((denominator, values))
+    let denominator = cursor.narrow();
+    let values = read_each(alloc, cursor, b' ');
+    (denominator, values)
 }
 
 /// Reads a line of a frame, a sub or a packing, or the first or the last line.
-#[tactic(auto, unfolding(crate::specs::LineReading::seldom_in))]
-fn read_seldom(alloc: Global, cursor: &mut Cursor<'_>) -> Result<Line, LineRefusal>
-    ensures found { IfOk result (λ l. cursor.old ≡ body_text l ++ cursor.new) }
-    ensures some { IfOk result (λ l. seldom_in cursor.old ≡ Some (l, cursor.new)) }
-    ensures none { result ≡ Err BadLine → seldom_in cursor.old ≡ None }
+fn read_seldom(alloc: Global, cursor: &mut Cursor<'_>) -> Line
+    ensures { Takes seldom_in (body_text result) cursor.old result cursor.new }
 {
     if cursor.accept(b"assume") {
-        let literals = read_each(alloc, cursor, b' ')?;
-        return Ok(Line::Assume { literals });
+        let literals = read_each(alloc, cursor, b' ');
+        return Line::Assume { literals };
     }
     if cursor.accept(b"qed") {
-        return Ok(Line::Qed);
+        return Line::Qed;
     }
     if cursor.accept(b"drop") {
-        return Ok(Line::Drop);
+        return Line::Drop;
     }
     if cursor.accept(b"feasible ") {
-        let sub = cursor.number()?;
-        cursor.expect(b" ")?;
-        let (denominator, values) = read_values(alloc, cursor)?;
-        return Ok(Line::Feasible {
+        let sub = cursor.number();
+        cursor.expect(b" ");
+        let (denominator, values) = read_values(alloc, cursor);
+        return Line::Feasible {
             sub,
             denominator,
             values,
-        });
+        };
     }
     if cursor.accept(b"price ") {
         return read_price(alloc, cursor);
     }
     if cursor.accept(b"farkas ") {
-        let (k, denominator, prices) = read_packing(alloc, cursor)?;
-        return Ok(Line::Farkas {
+        let (k, denominator, prices) = read_packing(alloc, cursor);
+        return Line::Farkas {
             k,
             denominator,
             prices,
-        });
+        };
     }
     if cursor.accept(b"verdict ") {
-        let verdict = read_verdict(alloc, cursor)?;
-        return Ok(Line::Verdict(verdict));
+        let verdict = read_verdict(alloc, cursor);
+        return Line::Verdict(verdict);
     }
-    cursor.expect(b"simpl-log ")?;
-    let version = cursor.number()?;
-    Ok(Line::Header { version })
+    cursor.expect(b"simpl-log ");
+    let version = cursor.number();
+    Line::Header { version }
 }
 
 /// Reads a line of the relaxation, a solution, or one of the lines above.
-#[tactic(auto, unfolding(crate::specs::LineReading::relaxed_in))]
-fn read_relaxed(alloc: Global, cursor: &mut Cursor<'_>) -> Result<Line, LineRefusal>
-    ensures found { IfOk result (λ l. cursor.old ≡ body_text l ++ cursor.new) }
-    ensures some { IfOk result (λ l. relaxed_in cursor.old ≡ Some (l, cursor.new)) }
-    ensures none { result ≡ Err BadLine → relaxed_in cursor.old ≡ None }
+fn read_relaxed(alloc: Global, cursor: &mut Cursor<'_>) -> Line
+    ensures { Takes relaxed_in (body_text result) cursor.old result cursor.new }
 {
     if cursor.accept(b"cutoff ") {
         return read_cutoff(alloc, cursor);
     }
     if cursor.accept(b"floor") {
-        let terms = read_each(alloc, cursor, b' ')?;
-        return Ok(Line::Floor { terms });
+        let terms = read_each(alloc, cursor, b' ');
+        return Line::Floor { terms };
     }
     if cursor.accept(b"pair ") {
-        let (denominator, values) = read_values(alloc, cursor)?;
-        return Ok(Line::Pair {
+        let (denominator, values) = read_values(alloc, cursor);
+        return Line::Pair {
             denominator,
             values,
-        });
+        };
     }
     if cursor.accept(b"norange ") {
         return read_norange(alloc, cursor);
@@ -287,28 +244,25 @@ fn read_relaxed(alloc: Global, cursor: &mut Cursor<'_>) -> Result<Line, LineRefu
         return read_cut(alloc, cursor);
     }
     if cursor.accept(b"sol ") {
-        let (denominator, values) = read_values(alloc, cursor)?;
-        return Ok(Line::Sol {
+        let (denominator, values) = read_values(alloc, cursor);
+        return Line::Sol {
             denominator,
             values,
-        });
+        };
     }
     read_seldom(alloc, cursor)
 }
 
 /// Reads a line without its end.
-#[tactic(auto, unfolding(crate::specs::LineReading::body_in))]
-pub(crate) fn read_body(alloc: Global, cursor: &mut Cursor<'_>) -> Result<Line, LineRefusal>
-    ensures found { IfOk result (λ l. cursor.old ≡ body_text l ++ cursor.new) }
-    ensures some { IfOk result (λ l. body_in cursor.old ≡ Some (l, cursor.new)) }
-    ensures none { result ≡ Err BadLine → body_in cursor.old ≡ None }
+pub(crate) fn read_body(alloc: Global, cursor: &mut Cursor<'_>) -> Line
+    ensures { Takes body_in (body_text result) cursor.old result cursor.new }
 {
     if cursor.accept(b"node ") {
         return read_node(cursor);
     }
     if cursor.accept(b"at ") {
-        let id = cursor.long_number()?;
-        return Ok(Line::At { id });
+        let id = cursor.long_number();
+        return Line::At { id };
     }
     if cursor.accept(b"infer ") {
         return read_infer(alloc, cursor);
@@ -317,8 +271,8 @@ pub(crate) fn read_body(alloc: Global, cursor: &mut Cursor<'_>) -> Result<Line, 
         return read_close(alloc, cursor);
     }
     if cursor.accept(b"violated ") {
-        let k = cursor.number()?;
-        return Ok(Line::Violated { k });
+        let k = cursor.number();
+        return Line::Violated { k };
     }
     if cursor.accept(b"lemma ") {
         return read_lemma(alloc, cursor);

@@ -2,11 +2,10 @@
 ghost use Rattle.std.specs.Prelude.{◌≡◌, ◌++◌, ◌∷◌, ◌↔◌, [], All, IsTrue, Some, None, Err, IfOk, OnOk};
 ghost use Rattle.sm_step.specs.PartText.{each_after, joined, joined_or_none};
 ghost use Rattle.sm_step.specs.Reading.{each_in, joined_in, listed_in};
-ghost use Rattle.sm_step.specs.declared.refusal.LineRefusal.TheVariants.{BadLine};
+ghost use Rattle.sm_step.specs.Taking.{Takes, TakesBehind};
 
 use crate::cursor::Cursor;
 use crate::part::Part;
-use crate::refusal::LineRefusal;
 use crate::short::Short;
 use sm_base::OutOfMemory;
 use std::alloc::Global;
@@ -27,21 +26,17 @@ pub(crate) fn push_each<T: Part>(
 }
 
 /// Reads parts, each after a mark, as long as the mark comes.
-pub(crate) fn read_each<T: Part>(
-    alloc: Global,
-    cursor: &mut Cursor<'_>,
-    mark: u8,
-) -> Result<Short<T>, LineRefusal>
-    ensures found { IfOk result (λ xs. cursor.old ≡ each_after mark T.text xs ++ cursor.new) }
-    ensures some { IfOk result (λ xs. each_in mark T.reading cursor.old ≡ Some (xs, cursor.new)) }
-    ensures none { result ≡ Err BadLine → each_in mark T.reading cursor.old ≡ None }
+pub(crate) fn read_each<T: Part>(alloc: Global, cursor: &mut Cursor<'_>, mark: u8) -> Short<T>
+    ensures { Takes (each_in mark T.reading) (each_after mark T.text result) cursor.old result cursor.new }
 {
     let mut parts = Short::new(alloc);
     while cursor.accept(&[mark]) {
-        let part = T::read(alloc, cursor)?;
-        parts.push(part)?;
+        let part = T::read(alloc, cursor);
+        if parts.push(part).is_err() {
+            cursor.run_out();
+        }
     }
-    Ok(parts)
+    parts
 }
 
 /// Appends the parts with a mark between them.
@@ -60,21 +55,15 @@ pub(crate) fn push_joined<T: Part>(
 }
 
 /// Reads one or more parts with a mark between them.
-#[tactic(auto, unfolding(crate::specs::Reading::joined_in))]
-pub(crate) fn read_joined<T: Part>(
-    alloc: Global,
-    cursor: &mut Cursor<'_>,
-    mark: u8,
-) -> Result<Short<T>, LineRefusal>
-    ensures found { IfOk result (λ xs. cursor.old ≡ joined mark T.text xs ++ cursor.new) }
-    ensures some { IfOk result (λ xs. joined_in mark T.reading cursor.old ≡ Some (xs, cursor.new)) }
-    ensures none { result ≡ Err BadLine → joined_in mark T.reading cursor.old ≡ None }
-    ensures listed { IfOk result (λ xs. joined_or_none mark T.text xs ≡ joined mark T.text xs) }
+pub(crate) fn read_joined<T: Part>(alloc: Global, cursor: &mut Cursor<'_>, mark: u8) -> Short<T>
+    ensures { Takes (joined_in mark T.reading) (joined mark T.text result) cursor.old result cursor.new }
 {
-    let first = T::read(alloc, cursor)?;
-    let mut parts = read_each(alloc, cursor, mark)?;
-    parts.push_front(first)?;
-    Ok(parts)
+    let first = T::read(alloc, cursor);
+    let mut parts = read_each(alloc, cursor, mark);
+    if parts.push_front(first).is_err() {
+        cursor.run_out();
+    }
+    parts
 }
 
 /// Appends the parts with a mark between them, or a `-` for none.
@@ -94,18 +83,11 @@ pub(crate) fn push_listed<T: Part>(
 }
 
 /// Reads parts with a mark between them, or a `-` for none.
-#[tactic(auto, unfolding(crate::specs::Reading::listed_in))]
-pub(crate) fn read_listed<T: Part>(
-    alloc: Global,
-    cursor: &mut Cursor<'_>,
-    mark: u8,
-) -> Result<Short<T>, LineRefusal>
-    ensures found { IfOk result (λ xs. cursor.old ≡ joined_or_none mark T.text xs ++ cursor.new) }
-    ensures some { IfOk result (λ xs. listed_in mark T.reading cursor.old ≡ Some (xs, cursor.new)) }
-    ensures none { result ≡ Err BadLine → listed_in mark T.reading cursor.old ≡ None }
+pub(crate) fn read_listed<T: Part>(alloc: Global, cursor: &mut Cursor<'_>, mark: u8) -> Short<T>
+    ensures { Takes (listed_in mark T.reading) (joined_or_none mark T.text result) cursor.old result cursor.new }
 {
     if cursor.accept_none() {
-        return Ok(Short::new(alloc));
+        return Short::new(alloc);
     }
     read_joined(alloc, cursor, mark)
 }

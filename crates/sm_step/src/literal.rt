@@ -3,11 +3,10 @@ ghost use Rattle.std.specs.Prelude.{◌≡◌, ◌++◌, Some, None, Err, IfOk, 
 ghost use Rattle.sm_step.specs.PartText.{test_text, literal_text};
 ghost use Rattle.sm_step.specs.PartReading.{test_in, literal_in};
 ghost use Rattle.sm_step.specs.Grammar.{IsLiteral};
-ghost use Rattle.sm_step.specs.declared.refusal.LineRefusal.TheVariants.{BadLine};
+ghost use Rattle.sm_step.specs.Taking.{Takes, TakesBehind};
 
 use crate::cursor::Cursor;
 use crate::part::Part;
-use crate::refusal::LineRefusal;
 use sm_base::{OutOfMemory, push_whole};
 use sm_flat::{Literal, Test};
 use std::alloc::Global;
@@ -34,36 +33,30 @@ pub(crate) fn push_literal(into: &mut Vec<u8>, literal: &Literal) -> Result<(), 
     push_whole(into, i128::from(literal.bound))
 }
 
-#[tactic(auto, unfolding(crate::specs::PartReading::test_in))]
-fn read_test(cursor: &mut Cursor<'_>) -> Result<Test, LineRefusal>
-    ensures found { IfOk result (λ t. cursor.old ≡ test_text t ++ cursor.new) }
-    ensures some { IfOk result (λ t. test_in cursor.old ≡ Some (t, cursor.new)) }
-    ensures none { result ≡ Err BadLine → test_in cursor.old ≡ None }
+fn read_test(cursor: &mut Cursor<'_>) -> Test
+    ensures { Takes test_in (test_text result) cursor.old result cursor.new }
 {
     if cursor.accept(b"<=") {
-        return Ok(Test::AtMost);
+        return Test::AtMost;
     }
     if cursor.accept(b">=") {
-        return Ok(Test::AtLeast);
+        return Test::AtLeast;
     }
     if cursor.accept(b"=") {
-        return Ok(Test::Equal);
+        return Test::Equal;
     }
-    cursor.expect(b"!=")?;
-    Ok(Test::Unequal)
+    cursor.expect(b"!=");
+    Test::Unequal
 }
 
-#[tactic(auto, unfolding(crate::specs::PartReading::literal_in))]
-pub(crate) fn read_literal(cursor: &mut Cursor<'_>) -> Result<Literal, LineRefusal>
-    ensures found { IfOk result (λ l. cursor.old ≡ literal_text l ++ cursor.new) }
-    ensures some { IfOk result (λ l. literal_in cursor.old ≡ Some (l, cursor.new)) }
-    ensures none { result ≡ Err BadLine → literal_in cursor.old ≡ None }
+pub(crate) fn read_literal(cursor: &mut Cursor<'_>) -> Literal
+    ensures { Takes literal_in (literal_text result) cursor.old result cursor.new }
 {
-    cursor.expect(b"v")?;
-    let var = cursor.number()?;
-    let test = read_test(cursor)?;
-    let bound = cursor.narrow()?;
-    Ok(Literal { var, test, bound })
+    cursor.expect(b"v");
+    let var = cursor.number();
+    let test = read_test(cursor);
+    let bound = cursor.narrow();
+    Literal { var, test, bound }
 }
 
 /// The greatest bound of a literal, in absolute value.
@@ -90,7 +83,7 @@ impl Part for Literal {
         push_literal(into, self)
     }
 
-    fn read(_alloc: Global, cursor: &mut Cursor<'_>) -> Result<Literal, LineRefusal> {
+    fn read(_alloc: Global, cursor: &mut Cursor<'_>) -> Literal {
         read_literal(cursor)
     }
 

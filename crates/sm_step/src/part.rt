@@ -1,10 +1,9 @@
 //! Parts of a line, which are printed, read and tested alike wherever they stand.
-ghost use Rattle.std.specs.Prelude.{◌≡◌, ◌++◌, ◌↔◌, IsTrue, List, ℕ, Some, None, Err, IfOk, OnOk};
+ghost use Rattle.std.specs.Prelude.{◌≡◌, ◌++◌, ◌↔◌, IsTrue, List, ℕ, OnOk};
 ghost use Rattle.sm_step.specs.Reading.{Reads};
-ghost use Rattle.sm_step.specs.declared.refusal.LineRefusal.TheVariants.{BadLine};
+ghost use Rattle.sm_step.specs.Taking.{Takes};
 
 use crate::cursor::Cursor;
-use crate::refusal::LineRefusal;
 use sm_base::{OutOfMemory, push_whole};
 use std::alloc::Global;
 use std::default::MadeWith;
@@ -25,10 +24,8 @@ pub(crate) trait Part: Sized + Drop + MadeWith<Global> {
         ensures { OnOk result (into.new.items ≡ into.old.items ++ text self.now) };
 
     /// Reads a part, in the ranges or not.
-    fn read(alloc: Global, cursor: &mut Cursor<'_>) -> Result<Self, LineRefusal>
-        ensures found { IfOk result (λ x. cursor.old ≡ text x ++ cursor.new) }
-        ensures some { IfOk result (λ x. reading cursor.old ≡ Some (x, cursor.new)) }
-        ensures none { result ≡ Err BadLine → reading cursor.old ≡ None };
+    fn read(alloc: Global, cursor: &mut Cursor<'_>) -> Self
+        ensures { Takes reading (text result) cursor.old result cursor.new };
 
     /// Whether the part is in the ranges.
     fn is_in_range(&self) -> bool
@@ -50,7 +47,7 @@ impl Part for u32 {
         push_whole(into, i128::from(*self))
     }
 
-    fn read(_alloc: Global, cursor: &mut Cursor<'_>) -> Result<u32, LineRefusal> {
+    fn read(_alloc: Global, cursor: &mut Cursor<'_>) -> u32 {
         cursor.number()
     }
 
@@ -75,7 +72,7 @@ impl Part for i128 {
         push_whole(into, *self)
     }
 
-    fn read(_alloc: Global, cursor: &mut Cursor<'_>) -> Result<i128, LineRefusal> {
+    fn read(_alloc: Global, cursor: &mut Cursor<'_>) -> i128 {
         cursor.whole()
     }
 

@@ -3,13 +3,12 @@ ghost use Rattle.std.specs.Prelude.{◌≡◌, ◌++◌, ◌↔◌, IsTrue, code
 ghost use Rattle.sm_step.specs.Text.{listed_text, pattern_text, program_text, operation_text};
 ghost use Rattle.sm_step.specs.LineReading.{listed_pattern_in, pattern_in, program_in, operation_in};
 ghost use Rattle.sm_step.specs.Grammar.{IsListed, IsPattern, IsProgram};
-ghost use Rattle.sm_step.specs.declared.refusal.LineRefusal.TheVariants.{BadLine};
+ghost use Rattle.sm_step.specs.Taking.{Takes, TakesBehind};
 
 use crate::cursor::Cursor;
 use crate::line::{Listed, NorangeOf, Pattern};
 use crate::lists::{all_in_range, push_listed, read_listed};
 use crate::part::Part;
-use crate::refusal::LineRefusal;
 use crate::row_range::is_list;
 use sm_base::{OutOfMemory, push_whole};
 use sm_frac::Op;
@@ -23,16 +22,13 @@ fn push_listed_pattern(into: &mut Vec<u8>, pattern: &Listed) -> Result<(), OutOf
     push_listed(into, b',', pattern.items.as_slice())
 }
 
-#[tactic(auto, unfolding(crate::specs::LineReading::listed_pattern_in))]
-fn read_listed_pattern(alloc: Global, cursor: &mut Cursor<'_>) -> Result<Listed, LineRefusal>
-    ensures found { IfOk result (λ p. cursor.old ≡ listed_text p ++ cursor.new) }
-    ensures some { IfOk result (λ p. listed_pattern_in cursor.old ≡ Some (p, cursor.new)) }
-    ensures none { result ≡ Err BadLine → listed_pattern_in cursor.old ≡ None }
+fn read_listed_pattern(alloc: Global, cursor: &mut Cursor<'_>) -> Listed
+    ensures { Takes listed_pattern_in (listed_text result) cursor.old result cursor.new }
 {
-    let group = cursor.number()?;
-    cursor.expect(b":")?;
-    let items = read_listed(alloc, cursor, b',')?;
-    Ok(Listed { group, items })
+    let group = cursor.number();
+    cursor.expect(b":");
+    let items = read_listed(alloc, cursor, b',');
+    Listed { group, items }
 }
 
 fn is_listed(pattern: &Listed) -> bool
@@ -56,7 +52,7 @@ impl Part for Listed {
         push_listed_pattern(into, self)
     }
 
-    fn read(alloc: Global, cursor: &mut Cursor<'_>) -> Result<Listed, LineRefusal> {
+    fn read(alloc: Global, cursor: &mut Cursor<'_>) -> Listed {
         read_listed_pattern(alloc, cursor)
     }
 
@@ -75,22 +71,19 @@ fn push_pattern(into: &mut Vec<u8>, pattern: &Pattern) -> Result<(), OutOfMemory
     push_whole(into, pattern.weight)
 }
 
-#[tactic(auto, unfolding(crate::specs::LineReading::pattern_in))]
-fn read_pattern(alloc: Global, cursor: &mut Cursor<'_>) -> Result<Pattern, LineRefusal>
-    ensures found { IfOk result (λ p. cursor.old ≡ pattern_text p ++ cursor.new) }
-    ensures some { IfOk result (λ p. pattern_in cursor.old ≡ Some (p, cursor.new)) }
-    ensures none { result ≡ Err BadLine → pattern_in cursor.old ≡ None }
+fn read_pattern(alloc: Global, cursor: &mut Cursor<'_>) -> Pattern
+    ensures { Takes pattern_in (pattern_text result) cursor.old result cursor.new }
 {
-    let group = cursor.number()?;
-    cursor.expect(b":")?;
-    let items = read_listed(alloc, cursor, b',')?;
-    cursor.expect(b":")?;
-    let weight = cursor.whole()?;
-    Ok(Pattern {
+    let group = cursor.number();
+    cursor.expect(b":");
+    let items = read_listed(alloc, cursor, b',');
+    cursor.expect(b":");
+    let weight = cursor.whole();
+    Pattern {
         group,
         items,
         weight,
-    })
+    }
 }
 
 fn is_pattern(pattern: &Pattern) -> bool
@@ -114,7 +107,7 @@ impl Part for Pattern {
         push_pattern(into, self)
     }
 
-    fn read(alloc: Global, cursor: &mut Cursor<'_>) -> Result<Pattern, LineRefusal> {
+    fn read(alloc: Global, cursor: &mut Cursor<'_>) -> Pattern {
         read_pattern(alloc, cursor)
     }
 
@@ -138,23 +131,20 @@ pub(crate) fn push_program(into: &mut Vec<u8>, program: &NorangeOf) -> Result<()
     }
 }
 
-#[tactic(auto, unfolding(crate::specs::LineReading::program_in))]
-pub(crate) fn read_program(alloc: Global, cursor: &mut Cursor<'_>) -> Result<NorangeOf, LineRefusal>
-    ensures found { IfOk result (λ p. cursor.old ≡ program_text p ++ cursor.new) }
-    ensures some { IfOk result (λ p. program_in cursor.old ≡ Some (p, cursor.new)) }
-    ensures none { result ≡ Err BadLine → program_in cursor.old ≡ None }
+pub(crate) fn read_program(alloc: Global, cursor: &mut Cursor<'_>) -> NorangeOf
+    ensures { Takes program_in (program_text result) cursor.old result cursor.new }
 {
     if cursor.accept(b"relax") {
-        return Ok(NorangeOf::Relax);
+        return NorangeOf::Relax;
     }
     if cursor.accept(b"leaf") {
-        return Ok(NorangeOf::Leaf);
+        return NorangeOf::Leaf;
     }
-    cursor.expect(b"pack.")?;
-    let k = cursor.number()?;
-    cursor.expect(b" ")?;
-    let patterns = read_listed(alloc, cursor, b';')?;
-    Ok(NorangeOf::Pack { k, patterns })
+    cursor.expect(b"pack.");
+    let k = cursor.number();
+    cursor.expect(b" ");
+    let patterns = read_listed(alloc, cursor, b';');
+    NorangeOf::Pack { k, patterns }
 }
 
 pub(crate) fn is_program(program: &NorangeOf) -> bool
@@ -180,24 +170,21 @@ pub(crate) fn push_operation(into: &mut Vec<u8>, operation: Op) -> Result<(), Ou
     Ok(())
 }
 
-#[tactic(auto, unfolding(crate::specs::LineReading::operation_in))]
-pub(crate) fn read_operation(cursor: &mut Cursor<'_>) -> Result<Op, LineRefusal>
-    ensures found { IfOk result (λ o. cursor.old ≡ operation_text o ++ cursor.new) }
-    ensures some { IfOk result (λ o. operation_in cursor.old ≡ Some (o, cursor.new)) }
-    ensures none { result ≡ Err BadLine → operation_in cursor.old ≡ None }
+pub(crate) fn read_operation(cursor: &mut Cursor<'_>) -> Op
+    ensures { Takes operation_in (operation_text result) cursor.old result cursor.new }
 {
     if cursor.accept(b"plus") {
-        return Ok(Op::Plus);
+        return Op::Plus;
     }
     if cursor.accept(b"minus") {
-        return Ok(Op::Minus);
+        return Op::Minus;
     }
     if cursor.accept(b"times") {
-        return Ok(Op::Times);
+        return Op::Times;
     }
     if cursor.accept(b"over") {
-        return Ok(Op::Over);
+        return Op::Over;
     }
-    cursor.expect(b"lcm")?;
-    Ok(Op::Lcm)
+    cursor.expect(b"lcm");
+    Op::Lcm
 }

@@ -1,11 +1,12 @@
 //! Reading a line.
-ghost use Rattle.std.specs.Prelude.{◌≡◌, ◌<◌, ◌^◌, length, codes, [], Some, None, true, false, Err, IfOk};
+ghost use Rattle.std.specs.Prelude.{◌≡◌, ◌<◌, ◌^◌, length, codes, Some, None, Ok, Err, true, false, IsOk, IfOk, IfErr, IfSome, IfNone};
 ghost use Rattle.sm_step.specs.declared.line.Line.{Line as Step};
 ghost use Rattle.sm_step.specs.declared.refusal.LineRefusal.TheVariants.{BadLine};
 ghost use Rattle.sm_step.specs.Text.{text_of};
 ghost use Rattle.sm_step.specs.Reading.{rest_behind};
 ghost use Rattle.sm_step.specs.LineReading.{line_in};
-ghost use Rattle.sm_step.specs.Grammar.{IsLine};
+ghost use Rattle.sm_step.specs.Grammar.{IsInRange, IsLine};
+ghost use Rattle.sm_step.specs.Taking.{Takes};
 
 use crate::cursor::Cursor;
 use crate::line::Line;
@@ -18,18 +19,38 @@ use std::alloc::Global;
 const LENGTHS: usize = 1 << 24;
 
 /// Reads a whole line, with its end.
-#[tactic(auto, unfolding(crate::specs::LineReading::line_in, crate::specs::Text::text_of))]
-fn read_line(alloc: Global, bytes: &[u8]) -> Result<Line, LineRefusal>
-    ensures found { IfOk result (λ l. bytes.now ≡ text_of l) }
-    ensures some { IfOk result (λ l. line_in bytes.now ≡ Some (l, [])) }
-    ensures none { result ≡ Err BadLine → line_in bytes.now ≡ None }
+fn read_line(alloc: Global, cursor: &mut Cursor<'_>) -> Line
+    ensures { Takes line_in (text_of result) cursor.old result cursor.new }
 {
-    let mut cursor = Cursor::new(bytes);
-    let line = read_body(alloc, &mut cursor)?;
-    if cursor.accept(b"\n") && cursor.is_at_end() {
-        Ok(line)
-    } else {
-        Err(LineRefusal::BadLine)
+    let line = read_body(alloc, cursor);
+    cursor.expect(b"\n");
+    cursor.end();
+    line
+}
+
+/// Why a line that was read is refused: the first fault, or that it is out of range.
+fn refusal_of(cursor: &Cursor<'_>, line: &Line) -> Option<LineRefusal>
+    ensures none { IfNone result (IsOk cursor.now × IsInRange line.now) }
+    ensures bad { result ≡ Some BadLine → IsOk cursor.now → IsInRange line.now → ⊥ }
+    ensures fault { IfSome result (λ fault. IfErr cursor.now (λ first. fault ≡ first)) }
+{
+    if let Some(fault) = cursor.fault() {
+        return Some(fault);
+    }
+    if is_in_range(line) {
+        return None;
+    }
+    Some(LineRefusal::BadLine)
+}
+
+/// The value, or why it is refused. Generic, so that what is dropped is one value, whatever it holds.
+fn unless<T: Drop>(value: T, refusal: Option<LineRefusal>) -> Result<T, LineRefusal>
+    ensures none { IfNone refusal (result ≡ Ok value) }
+    ensures some { IfSome refusal (λ why. result ≡ Err why) }
+{
+    match refusal {
+        Some(why) => Err(why),
+        None => Ok(value),
     }
 }
 
@@ -53,11 +74,10 @@ pub fn read(alloc: Global, bytes: &[u8]) -> Result<Line, LineRefusal>
     if is_too_long(bytes) {
         return Err(LineRefusal::BadLine);
     }
-    let line = read_line(alloc, bytes)?;
-    if is_in_range(&line) {
-        return Ok(line);
-    }
-    Err(LineRefusal::BadLine)
+    let mut cursor = Cursor::new(bytes);
+    let line = read_line(alloc, &mut cursor);
+    let refusal = refusal_of(&cursor, &line);
+    unless(line, refusal)
 }
 
 /// Two lines of the grammar have different texts.

@@ -4,7 +4,6 @@ ghost use Rattle.sm_step.specs.Grammar.{IsLongNumber, IsList, IsColumn, ComesBef
 
 use crate::cursor::Cursor;
 use crate::part::Part;
-use crate::refusal::LineRefusal;
 use crate::row::{Col, RowRef, Term};
 use crate::row_text::{push_column, push_term, read_column, read_term};
 use sm_base::OutOfMemory;
@@ -113,7 +112,7 @@ impl Part for Col {
         push_column(into, self)
     }
 
-    fn read(_alloc: Global, cursor: &mut Cursor<'_>) -> Result<Col, LineRefusal> {
+    fn read(_alloc: Global, cursor: &mut Cursor<'_>) -> Col {
         read_column(cursor)
     }
 
@@ -137,7 +136,7 @@ impl Part for Term {
         push_term(into, self)
     }
 
-    fn read(alloc: Global, cursor: &mut Cursor<'_>) -> Result<Term, LineRefusal> {
+    fn read(alloc: Global, cursor: &mut Cursor<'_>) -> Term {
         read_term(alloc, cursor)
     }
 

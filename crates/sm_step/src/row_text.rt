@@ -4,12 +4,11 @@ ghost use Rattle.sm_base.specs.Whole.{whole_text};
 ghost use Rattle.sm_step.specs.PartText.{number_text, list_text};
 ghost use Rattle.sm_step.specs.RowText.{column_text, row_text, term_text};
 ghost use Rattle.sm_step.specs.RowReading.{column_in, pair_in, number_and_whole_in, task_row_in, row_in, term_in};
-ghost use Rattle.sm_step.specs.declared.refusal.LineRefusal.TheVariants.{BadLine};
+ghost use Rattle.sm_step.specs.Taking.{Takes, TakesBehind};
 
 use crate::cursor::Cursor;
 use crate::fraction::{push_fraction, read_fraction};
 use crate::lists::{push_listed, read_listed};
-use crate::refusal::LineRefusal;
 use crate::row::{Col, RowRef, Term};
 use sm_base::{OutOfMemory, push_whole};
 use std::alloc::Global;
@@ -87,131 +86,113 @@ pub(crate) fn push_term(into: &mut Vec<u8>, term: &Term) -> Result<(), OutOfMemo
     push_row(into, &term.row)
 }
 
-#[tactic(auto, unfolding(crate::specs::RowReading::column_in))]
-pub(crate) fn read_column(cursor: &mut Cursor<'_>) -> Result<Col, LineRefusal>
-    ensures found { IfOk result (λ c. cursor.old ≡ column_text c ++ cursor.new) }
-    ensures some { IfOk result (λ c. column_in cursor.old ≡ Some (c, cursor.new)) }
-    ensures none { result ≡ Err BadLine → column_in cursor.old ≡ None }
+pub(crate) fn read_column(cursor: &mut Cursor<'_>) -> Col
+    ensures { Takes column_in (column_text result) cursor.old result cursor.new }
 {
-    cursor.expect(b"v")?;
-    let var = cursor.number()?;
-    if !cursor.accept(b"=") {
-        return Ok(Col::Var(var));
+    cursor.expect(b"v");
+    let var = cursor.number();
+    if cursor.accept(b"=") {
+        let value = cursor.narrow();
+        return Col::Is(var, value);
     }
-    let value = cursor.narrow()?;
-    Ok(Col::Is(var, value))
+    Col::Var(var)
 }
 
 /// Reads two numbers with a point between them.
-#[tactic(auto, unfolding(crate::specs::RowReading::pair_in))]
-fn read_pair(cursor: &mut Cursor<'_>) -> Result<(u32, u32), LineRefusal>
-    ensures found { IfOk result (λ p. cursor.old ≡ number_text p.0 ++ codes "." ++ number_text p.1 ++ cursor.new) }
-    ensures some { IfOk result (λ p. pair_in cursor.old ≡ Some (p, cursor.new)) }
-    ensures none { result ≡ Err BadLine → pair_in cursor.old ≡ None }
+fn read_pair(cursor: &mut Cursor<'_>) -> (u32, u32)
+    ensures { Takes pair_in (number_text result.0 ++ codes "." ++ number_text result.1) cursor.old result cursor.new }
 {
-    let k = cursor.number()?;
-    cursor.expect(b".")?;
-    let number = cursor.number()?;
-    Ok((k, number))
+    let k = cursor.number();
+    cursor.expect(b".");
+    let number = cursor.number();
+    (k, number)
 }
 
 /// Reads a number and a whole number with a point between them.
-#[tactic(auto, unfolding(crate::specs::RowReading::number_and_whole_in))]
-fn read_number_and_whole(cursor: &mut Cursor<'_>) -> Result<(u32, i128), LineRefusal>
-    ensures found { IfOk result (λ p. cursor.old ≡ number_text p.0 ++ codes "." ++ whole_text p.1 ++ cursor.new) }
-    ensures some { IfOk result (λ p. number_and_whole_in cursor.old ≡ Some (p, cursor.new)) }
-    ensures none { result ≡ Err BadLine → number_and_whole_in cursor.old ≡ None }
+fn read_number_and_whole(cursor: &mut Cursor<'_>) -> (u32, i128)
+    ensures { Takes number_and_whole_in (number_text result.0 ++ codes "." ++ whole_text result.1) cursor.old result cursor.new }
 {
-    let k = cursor.number()?;
-    cursor.expect(b".")?;
-    let number = cursor.whole()?;
-    Ok((k, number))
+    let k = cursor.number();
+    cursor.expect(b".");
+    let number = cursor.whole();
+    (k, number)
 }
 
 /// Reads the name of a row of scheduling, packing or a circuit, or of a cut.
-#[tactic(auto, unfolding(crate::specs::RowReading::task_row_in))]
-fn read_task_row(alloc: Global, cursor: &mut Cursor<'_>) -> Result<RowRef, LineRefusal>
-    ensures found { IfOk result (λ r. cursor.old ≡ row_text r ++ cursor.new) }
-    ensures some { IfOk result (λ r. task_row_in cursor.old ≡ Some (r, cursor.new)) }
-    ensures none { result ≡ Err BadLine → task_row_in cursor.old ≡ None }
+fn read_task_row(alloc: Global, cursor: &mut Cursor<'_>) -> RowRef
+    ensures { Takes task_row_in (row_text result) cursor.old result cursor.new }
 {
     if cursor.accept(b"time.") {
-        let (k, moment) = read_number_and_whole(cursor)?;
-        return Ok(RowRef::Time { k, moment });
+        let (k, moment) = read_number_and_whole(cursor);
+        return RowRef::Time { k, moment };
     }
     if cursor.accept(b"par.") {
-        let k = cursor.number()?;
-        cursor.expect(b".")?;
-        let tasks = read_listed(alloc, cursor, b',')?;
-        return Ok(RowRef::Par { k, tasks });
+        let k = cursor.number();
+        cursor.expect(b".");
+        let tasks = read_listed(alloc, cursor, b',');
+        return RowRef::Par { k, tasks };
     }
     if cursor.accept(b"cap.") {
-        let (k, group) = read_pair(cursor)?;
-        return Ok(RowRef::Cap { k, group });
+        let (k, group) = read_pair(cursor);
+        return RowRef::Cap { k, group };
     }
     if cursor.accept(b"pack.") {
-        let k = cursor.number()?;
-        return Ok(RowRef::Pack { k });
+        let k = cursor.number();
+        return RowRef::Pack { k };
     }
     if cursor.accept(b"once.") {
-        let (k, node) = read_pair(cursor)?;
-        return Ok(RowRef::Once { k, node });
+        let (k, node) = read_pair(cursor);
+        return RowRef::Once { k, node };
     }
     if cursor.accept(b"self.") {
-        let (k, place) = read_pair(cursor)?;
-        return Ok(RowRef::SelfLoop { k, place });
+        let (k, place) = read_pair(cursor);
+        return RowRef::SelfLoop { k, place };
     }
-    cursor.expect(b"cut.")?;
-    let cut = cursor.long_number()?;
-    Ok(RowRef::Cut { cut })
+    cursor.expect(b"cut.");
+    let cut = cursor.long_number();
+    RowRef::Cut { cut }
 }
 
 /// Reads the name of a row.
-#[tactic(auto, unfolding(crate::specs::RowReading::row_in))]
-pub(crate) fn read_row(alloc: Global, cursor: &mut Cursor<'_>) -> Result<RowRef, LineRefusal>
-    ensures found { IfOk result (λ r. cursor.old ≡ row_text r ++ cursor.new) }
-    ensures some { IfOk result (λ r. row_in cursor.old ≡ Some (r, cursor.new)) }
-    ensures none { result ≡ Err BadLine → row_in cursor.old ≡ None }
+pub(crate) fn read_row(alloc: Global, cursor: &mut Cursor<'_>) -> RowRef
+    ensures { Takes row_in (row_text result) cursor.old result cursor.new }
 {
     if cursor.accept(b"lin.") {
-        let k = cursor.number()?;
-        return Ok(RowRef::Lin { k });
+        let k = cursor.number();
+        return RowRef::Lin { k };
     }
     if cursor.accept(b"link.") {
-        let var = cursor.number()?;
-        return Ok(RowRef::Link { var });
+        let var = cursor.number();
+        return RowRef::Link { var };
     }
     if cursor.accept(b"mean.") {
-        let var = cursor.number()?;
-        return Ok(RowRef::Mean { var });
+        let var = cursor.number();
+        return RowRef::Mean { var };
     }
     if cursor.accept(b"clause.") {
-        let (k, clause) = read_pair(cursor)?;
-        return Ok(RowRef::Clause { k, clause });
+        let (k, clause) = read_pair(cursor);
+        return RowRef::Clause { k, clause };
     }
     if cursor.accept(b"when.") {
-        let (k, half) = read_pair(cursor)?;
-        return Ok(RowRef::When { k, half });
+        let (k, half) = read_pair(cursor);
+        return RowRef::When { k, half };
     }
     if cursor.accept(b"value.") {
-        let (k, value) = read_number_and_whole(cursor)?;
-        return Ok(RowRef::Value { k, value });
+        let (k, value) = read_number_and_whole(cursor);
+        return RowRef::Value { k, value };
     }
     if cursor.accept(b"table.") {
-        let k = cursor.number()?;
-        return Ok(RowRef::Table { k });
+        let k = cursor.number();
+        return RowRef::Table { k };
     }
     read_task_row(alloc, cursor)
 }
 
-#[tactic(auto, unfolding(crate::specs::RowReading::term_in))]
-pub(crate) fn read_term(alloc: Global, cursor: &mut Cursor<'_>) -> Result<Term, LineRefusal>
-    ensures found { IfOk result (λ t. cursor.old ≡ term_text t ++ cursor.new) }
-    ensures some { IfOk result (λ t. term_in cursor.old ≡ Some (t, cursor.new)) }
-    ensures none { result ≡ Err BadLine → term_in cursor.old ≡ None }
+pub(crate) fn read_term(alloc: Global, cursor: &mut Cursor<'_>) -> Term
+    ensures { Takes term_in (term_text result) cursor.old result cursor.new }
 {
-    let by = read_fraction(cursor)?;
-    cursor.expect(b"@")?;
-    let row = read_row(alloc, cursor)?;
-    Ok(Term { by, row })
+    let by = read_fraction(cursor);
+    cursor.expect(b"@");
+    let row = read_row(alloc, cursor);
+    Term { by, row }
 }

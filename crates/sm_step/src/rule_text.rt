@@ -4,12 +4,11 @@ ghost use Rattle.sm_base.specs.Whole.{whole_text};
 ghost use Rattle.sm_step.specs.PartText.{number_text, list_text};
 ghost use Rattle.sm_step.specs.RuleText.{task_text, rule_text, outcome_text};
 ghost use Rattle.sm_step.specs.RuleReading.{task_in, two_numbers_in, number_and_list_in, time_rule_in, order_in, task_rule_in, value_rule_in, rule_in, outcome_in};
-ghost use Rattle.sm_step.specs.declared.refusal.LineRefusal.TheVariants.{BadLine};
+ghost use Rattle.sm_step.specs.Taking.{Takes, TakesBehind};
 
 use crate::cursor::Cursor;
 use crate::line::Outcome;
 use crate::lists::{push_joined, push_listed, read_joined, read_listed};
-use crate::refusal::LineRefusal;
 use crate::rule::Rule;
 use crate::short::Short;
 use sm_base::{OutOfMemory, push_whole};
@@ -128,180 +127,141 @@ pub(crate) fn push_outcome(into: &mut Vec<u8>, outcome: &Outcome) -> Result<(), 
     }
 }
 
-#[tactic(auto, unfolding(crate::specs::RuleReading::task_in))]
-fn read_task(cursor: &mut Cursor<'_>) -> Result<Option<u32>, LineRefusal>
-    ensures found { IfOk result (λ t. cursor.old ≡ task_text t ++ cursor.new) }
-    ensures some { IfOk result (λ t. task_in cursor.old ≡ Some (t, cursor.new)) }
-    ensures none { result ≡ Err BadLine → task_in cursor.old ≡ None }
+fn read_task(cursor: &mut Cursor<'_>) -> Option<u32>
+    ensures { Takes task_in (task_text result) cursor.old result cursor.new }
 {
     if cursor.accept(b"-") {
-        return Ok(None);
+        return None;
     }
-    let task = cursor.number()?;
-    Ok(Some(task))
+    let task = cursor.number();
+    Some(task)
 }
 
 /// Reads two numbers with a space between them.
-#[tactic(auto, unfolding(crate::specs::RuleReading::two_numbers_in))]
-fn read_two_numbers(cursor: &mut Cursor<'_>) -> Result<(u32, u32), LineRefusal>
-    ensures found { IfOk result (λ p. cursor.old ≡ number_text p.0 ++ codes " " ++ number_text p.1 ++ cursor.new) }
-    ensures some { IfOk result (λ p. two_numbers_in cursor.old ≡ Some (p, cursor.new)) }
-    ensures none { result ≡ Err BadLine → two_numbers_in cursor.old ≡ None }
+fn read_two_numbers(cursor: &mut Cursor<'_>) -> (u32, u32)
+    ensures { Takes two_numbers_in (number_text result.0 ++ codes " " ++ number_text result.1) cursor.old result cursor.new }
 {
-    let k = cursor.number()?;
-    cursor.expect(b" ")?;
-    let number = cursor.number()?;
-    Ok((k, number))
+    let k = cursor.number();
+    cursor.expect(b" ");
+    let number = cursor.number();
+    (k, number)
 }
 
 /// Reads a number and a list.
-#[tactic(auto, unfolding(crate::specs::RuleReading::number_and_list_in))]
-fn read_number_and_list(
-    alloc: Global,
-    cursor: &mut Cursor<'_>,
-) -> Result<(u32, Short<u32>), LineRefusal>
-    ensures found { IfOk result (λ p. cursor.old ≡ number_text p.0 ++ codes " " ++ list_text p.1 ++ cursor.new) }
-    ensures some { IfOk result (λ p. number_and_list_in cursor.old ≡ Some (p, cursor.new)) }
-    ensures none { result ≡ Err BadLine → number_and_list_in cursor.old ≡ None }
+fn read_number_and_list(alloc: Global, cursor: &mut Cursor<'_>) -> (u32, Short<u32>)
+    ensures { Takes number_and_list_in (number_text result.0 ++ codes " " ++ list_text result.1) cursor.old result cursor.new }
 {
-    let k = cursor.number()?;
-    cursor.expect(b" ")?;
-    let w = read_listed(alloc, cursor, b',')?;
-    Ok((k, w))
-}
-
-/// A task that comes before or after a set of tasks.
-#[derive(Drop)]
-struct Order {
-    k: u32,
-    task: u32,
-    w: Short<u32>,
-    v: Short<u32>,
+    let k = cursor.number();
+    cursor.expect(b" ");
+    let w = read_listed(alloc, cursor, b',');
+    (k, w)
 }
 
 /// Reads a constraint, a task and two lists.
-#[tactic(auto, unfolding(crate::specs::RuleReading::order_in))]
-fn read_order(alloc: Global, cursor: &mut Cursor<'_>) -> Result<Order, LineRefusal>
-    ensures found { IfOk result (λ o. cursor.old ≡ number_text o.k ++ codes " " ++ number_text o.task ++ codes " " ++ list_text o.w ++ codes " " ++ list_text o.v ++ cursor.new) }
-    ensures some { IfOk result (λ o. order_in cursor.old ≡ Some ((o.k, o.task, o.w, o.v), cursor.new)) }
-    ensures none { result ≡ Err BadLine → order_in cursor.old ≡ None }
+fn read_order(alloc: Global, cursor: &mut Cursor<'_>) -> (u32, u32, Short<u32>, Short<u32>)
+    ensures { Takes order_in (number_text result.0 ++ codes " " ++ number_text result.1 ++ codes " " ++ list_text result.2 ++ codes " " ++ list_text result.3) cursor.old result cursor.new }
 {
-    let (k, task) = read_two_numbers(cursor)?;
-    cursor.expect(b" ")?;
-    let w = read_listed(alloc, cursor, b',')?;
-    cursor.expect(b" ")?;
-    let v = read_listed(alloc, cursor, b',')?;
-    Ok(Order { k, task, w, v })
+    let (k, task) = read_two_numbers(cursor);
+    cursor.expect(b" ");
+    let w = read_listed(alloc, cursor, b',');
+    cursor.expect(b" ");
+    let v = read_listed(alloc, cursor, b',');
+    (k, task, w, v)
 }
 
 /// Reads what stands behind `time `.
-#[tactic(auto, unfolding(crate::specs::RuleReading::time_rule_in))]
-fn read_time_rule(cursor: &mut Cursor<'_>) -> Result<Rule, LineRefusal>
-    ensures found { IfOk result (λ r. codes "time " ++ cursor.old ≡ rule_text r ++ cursor.new) }
-    ensures some { IfOk result (λ r. time_rule_in cursor.old ≡ Some (r, cursor.new)) }
-    ensures none { result ≡ Err BadLine → time_rule_in cursor.old ≡ None }
+fn read_time_rule(cursor: &mut Cursor<'_>) -> Rule
+    ensures { TakesBehind (codes "time ") time_rule_in (rule_text result) cursor.old result cursor.new }
 {
-    let k = cursor.number()?;
-    cursor.expect(b" ")?;
-    let moment = cursor.whole()?;
-    cursor.expect(b" ")?;
-    let task = read_task(cursor)?;
-    Ok(Rule::Time { k, moment, task })
+    let k = cursor.number();
+    cursor.expect(b" ");
+    let moment = cursor.whole();
+    cursor.expect(b" ");
+    let task = read_task(cursor);
+    Rule::Time { k, moment, task }
 }
 
 /// Reads a rule of scheduling.
-#[tactic(auto, unfolding(crate::specs::RuleReading::task_rule_in))]
-fn read_task_rule(alloc: Global, cursor: &mut Cursor<'_>) -> Result<Rule, LineRefusal>
-    ensures found { IfOk result (λ r. cursor.old ≡ rule_text r ++ cursor.new) }
-    ensures some { IfOk result (λ r. task_rule_in cursor.old ≡ Some (r, cursor.new)) }
-    ensures none { result ≡ Err BadLine → task_rule_in cursor.old ≡ None }
+fn read_task_rule(alloc: Global, cursor: &mut Cursor<'_>) -> Rule
+    ensures { Takes task_rule_in (rule_text result) cursor.old result cursor.new }
 {
     if cursor.accept(b"time ") {
         return read_time_rule(cursor);
     }
     if cursor.accept(b"energy ") {
-        let (k, w) = read_number_and_list(alloc, cursor)?;
-        return Ok(Rule::Energy { k, w });
+        let (k, w) = read_number_and_list(alloc, cursor);
+        return Rule::Energy { k, w };
     }
     if cursor.accept(b"load ") {
-        let (k, w) = read_number_and_list(alloc, cursor)?;
-        return Ok(Rule::Load { k, w });
+        let (k, w) = read_number_and_list(alloc, cursor);
+        return Rule::Load { k, w };
     }
     if cursor.accept(b"after ") {
-        let Order { k, task, w, v } = read_order(alloc, cursor)?;
-        return Ok(Rule::After { k, task, w, v });
+        let (k, task, w, v) = read_order(alloc, cursor);
+        return Rule::After { k, task, w, v };
     }
-    cursor.expect(b"before ")?;
-    let Order { k, task, w, v } = read_order(alloc, cursor)?;
-    Ok(Rule::Before { k, task, w, v })
+    cursor.expect(b"before ");
+    let (k, task, w, v) = read_order(alloc, cursor);
+    Rule::Before { k, task, w, v }
 }
 
 /// Reads a rule of values, packing or circuits, or of scheduling.
-#[tactic(auto, unfolding(crate::specs::RuleReading::value_rule_in))]
-fn read_value_rule(alloc: Global, cursor: &mut Cursor<'_>) -> Result<Rule, LineRefusal>
-    ensures found { IfOk result (λ r. cursor.old ≡ rule_text r ++ cursor.new) }
-    ensures some { IfOk result (λ r. value_rule_in cursor.old ≡ Some (r, cursor.new)) }
-    ensures none { result ≡ Err BadLine → value_rule_in cursor.old ≡ None }
+fn read_value_rule(alloc: Global, cursor: &mut Cursor<'_>) -> Rule
+    ensures { Takes value_rule_in (rule_text result) cursor.old result cursor.new }
 {
     if cursor.accept(b"elem ") {
-        let k = cursor.number()?;
-        return Ok(Rule::Elem { k });
+        let k = cursor.number();
+        return Rule::Elem { k };
     }
     if cursor.accept(b"isum ") {
-        let k = cursor.number()?;
-        return Ok(Rule::Isum { k });
+        let k = cursor.number();
+        return Rule::Isum { k };
     }
     if cursor.accept(b"cap ") {
-        let (k, group) = read_two_numbers(cursor)?;
-        return Ok(Rule::Cap { k, group });
+        let (k, group) = read_two_numbers(cursor);
+        return Rule::Cap { k, group };
     }
     if cursor.accept(b"pay ") {
-        let k = cursor.number()?;
-        return Ok(Rule::Pay { k });
+        let k = cursor.number();
+        return Rule::Pay { k };
     }
     if cursor.accept(b"chain ") {
-        let (k, place) = read_two_numbers(cursor)?;
-        return Ok(Rule::Chain { k, place });
+        let (k, place) = read_two_numbers(cursor);
+        return Rule::Chain { k, place };
     }
     read_task_rule(alloc, cursor)
 }
 
 /// Reads a rule with its arguments.
-#[tactic(auto, unfolding(crate::specs::RuleReading::rule_in))]
-pub(crate) fn read_rule(alloc: Global, cursor: &mut Cursor<'_>) -> Result<Rule, LineRefusal>
-    ensures found { IfOk result (λ r. cursor.old ≡ rule_text r ++ cursor.new) }
-    ensures some { IfOk result (λ r. rule_in cursor.old ≡ Some (r, cursor.new)) }
-    ensures none { result ≡ Err BadLine → rule_in cursor.old ≡ None }
+pub(crate) fn read_rule(alloc: Global, cursor: &mut Cursor<'_>) -> Rule
+    ensures { Takes rule_in (rule_text result) cursor.old result cursor.new }
 {
     if cursor.accept(b"sum ") {
-        let (k, half) = read_two_numbers(cursor)?;
-        return Ok(Rule::Sum { k, half });
+        let (k, half) = read_two_numbers(cursor);
+        return Rule::Sum { k, half };
     }
     if cursor.accept(b"clause ") {
-        let (k, clause) = read_two_numbers(cursor)?;
-        return Ok(Rule::Clause { k, clause });
+        let (k, clause) = read_two_numbers(cursor);
+        return Rule::Clause { k, clause };
     }
     if cursor.accept(b"when ") {
-        let (k, half) = read_two_numbers(cursor)?;
-        return Ok(Rule::When { k, half });
+        let (k, half) = read_two_numbers(cursor);
+        return Rule::When { k, half };
     }
     if cursor.accept(b"hall ") {
-        let (k, w) = read_number_and_list(alloc, cursor)?;
-        return Ok(Rule::Hall { k, w });
+        let (k, w) = read_number_and_list(alloc, cursor);
+        return Rule::Hall { k, w };
     }
     read_value_rule(alloc, cursor)
 }
 
 /// Reads `close`, or literals with spaces between them.
-#[tactic(auto, unfolding(crate::specs::RuleReading::outcome_in))]
-pub(crate) fn read_outcome(alloc: Global, cursor: &mut Cursor<'_>) -> Result<Outcome, LineRefusal>
-    ensures found { IfOk result (λ o. cursor.old ≡ outcome_text o ++ cursor.new) }
-    ensures some { IfOk result (λ o. outcome_in cursor.old ≡ Some (o, cursor.new)) }
-    ensures none { result ≡ Err BadLine → outcome_in cursor.old ≡ None }
+pub(crate) fn read_outcome(alloc: Global, cursor: &mut Cursor<'_>) -> Outcome
+    ensures { Takes outcome_in (outcome_text result) cursor.old result cursor.new }
 {
     if cursor.accept(b"close") {
-        return Ok(Outcome::Close);
+        return Outcome::Close;
     }
-    let literals = read_joined(alloc, cursor, b' ')?;
-    Ok(Outcome::Literals(literals))
+    let literals = read_joined(alloc, cursor, b' ');
+    Outcome::Literals(literals)
 }

@@ -4,12 +4,11 @@ ghost use Rattle.sm_step.specs.PartText.{fraction_text};
 ghost use Rattle.sm_step.specs.Text.{best_text, verdict_text};
 ghost use Rattle.sm_step.specs.LineReading.{best_in, bound_in, verdict_in};
 ghost use Rattle.sm_step.specs.Grammar.{IsBest, IsVerdict};
-ghost use Rattle.sm_step.specs.declared.refusal.LineRefusal.TheVariants.{BadLine};
+ghost use Rattle.sm_step.specs.Taking.{Takes, TakesBehind};
 
 use crate::cursor::Cursor;
 use crate::fraction::{push_fraction, read_fraction};
 use crate::lists::{push_joined, read_joined};
-use crate::refusal::LineRefusal;
 use crate::row_range::is_long_number;
 use crate::short::Short;
 use crate::verdict::Verdict;
@@ -62,61 +61,49 @@ pub(crate) fn push_verdict(into: &mut Vec<u8>, verdict: &Verdict) -> Result<(), 
     }
 }
 
-#[tactic(auto, unfolding(crate::specs::LineReading::best_in))]
-fn read_best(alloc: Global, cursor: &mut Cursor<'_>) -> Result<Option<Short<Frac>>, LineRefusal>
-    ensures found { IfOk result (λ b. cursor.old ≡ best_text b ++ cursor.new) }
-    ensures some { IfOk result (λ b. best_in cursor.old ≡ Some (b, cursor.new)) }
-    ensures none { result ≡ Err BadLine → best_in cursor.old ≡ None }
+fn read_best(alloc: Global, cursor: &mut Cursor<'_>) -> Option<Short<Frac>>
+    ensures { Takes best_in (best_text result) cursor.old result cursor.new }
 {
     if cursor.accept(b"none") {
-        return Ok(None);
+        return None;
     }
-    let values = read_joined(alloc, cursor, b',')?;
-    Ok(Some(values))
+    let values = read_joined(alloc, cursor, b',');
+    Some(values)
 }
 
 /// Reads a bound and a best.
-#[tactic(auto, unfolding(crate::specs::LineReading::bound_in))]
-fn read_bound(
-    alloc: Global,
-    cursor: &mut Cursor<'_>,
-) -> Result<(Frac, Option<Short<Frac>>), LineRefusal>
-    ensures found { IfOk result (λ b. cursor.old ≡ fraction_text b.0 ++ codes " " ++ best_text b.1 ++ cursor.new) }
-    ensures some { IfOk result (λ b. bound_in cursor.old ≡ Some (b, cursor.new)) }
-    ensures none { result ≡ Err BadLine → bound_in cursor.old ≡ None }
+fn read_bound(alloc: Global, cursor: &mut Cursor<'_>) -> (Frac, Option<Short<Frac>>)
+    ensures { Takes bound_in (fraction_text result.0 ++ codes " " ++ best_text result.1) cursor.old result cursor.new }
 {
-    let bound = read_fraction(cursor)?;
-    cursor.expect(b" ")?;
-    let best = read_best(alloc, cursor)?;
-    Ok((bound, best))
+    let bound = read_fraction(cursor);
+    cursor.expect(b" ");
+    let best = read_best(alloc, cursor);
+    (bound, best)
 }
 
 /// Reads a verdict.
-#[tactic(auto, unfolding(crate::specs::LineReading::verdict_in))]
-pub(crate) fn read_verdict(alloc: Global, cursor: &mut Cursor<'_>) -> Result<Verdict, LineRefusal>
-    ensures found { IfOk result (λ v. cursor.old ≡ verdict_text v ++ cursor.new) }
-    ensures some { IfOk result (λ v. verdict_in cursor.old ≡ Some (v, cursor.new)) }
-    ensures none { result ≡ Err BadLine → verdict_in cursor.old ≡ None }
+pub(crate) fn read_verdict(alloc: Global, cursor: &mut Cursor<'_>) -> Verdict
+    ensures { Takes verdict_in (verdict_text result) cursor.old result cursor.new }
 {
     if cursor.accept(b"optimal ") {
-        let values = read_joined(alloc, cursor, b',')?;
-        return Ok(Verdict::Optimal { values });
+        let values = read_joined(alloc, cursor, b',');
+        return Verdict::Optimal { values };
     }
     if cursor.accept(b"satisfied") {
-        return Ok(Verdict::Satisfied);
+        return Verdict::Satisfied;
     }
     if cursor.accept(b"infeasible") {
-        return Ok(Verdict::Infeasible);
+        return Verdict::Infeasible;
     }
     if cursor.accept(b"limit ") {
-        let nodes = cursor.long_number()?;
-        cursor.expect(b" ")?;
-        let (bound, best) = read_bound(alloc, cursor)?;
-        return Ok(Verdict::Limit { nodes, bound, best });
+        let nodes = cursor.long_number();
+        cursor.expect(b" ");
+        let (bound, best) = read_bound(alloc, cursor);
+        return Verdict::Limit { nodes, bound, best };
     }
-    cursor.expect(b"range ")?;
-    let (bound, best) = read_bound(alloc, cursor)?;
-    Ok(Verdict::Range { bound, best })
+    cursor.expect(b"range ");
+    let (bound, best) = read_bound(alloc, cursor);
+    Verdict::Range { bound, best }
 }
 
 fn is_best(best: &Option<Short<Frac>>) -> bool

@@ -27,10 +27,11 @@ use Rattle.sm_syntax.specs.declared.tree.Splitting.TheVariants as splittings
 use Rattle.sm_syntax.specs.Grammars.{Symbol, leaf, node}
 use Rattle.sm_syntax.specs.Grammar as g
 use Rattle.sm_syntax.specs.Parsing.{becomes}
+use Rattle.sm_syntax.specs.Reading.{each}
 use Rattle.sm_syntax.specs.Expressions.{Expression, expression, Addends, no_addends, addend, Product, product, Operands, no_operands, times, Operand, number, named, group, sum, Expressions, no_expressions, another, Binding, binding, Comparisons, no_comparisons, besides, Comparison, comparison, Literal, a_literal}
 use Rattle.sm_syntax.specs.Formulas as f
 use Rattle.sm_syntax.specs.Trees as t
-use Rattle.sm_syntax.specs.Steps.{Steps, addends_then, aim_then, bind_then, binding_then, choice_then, choices_then, choosing_symbol, choosing_then, claim_then, claims_then, cmp_then, comparison_then, comparisons_then, conjunction_then, conjunctions_then, constraint_then, ctask_then, ctasks_then, disjunction_then, dtask_then, ending_then, expression_then, expressions_then, family_then, for_each_then, forall_then, goal_then, indices_then, item_then, items_then, kind_then, level_symbol, level_then, list_then, listing_then, lit_relation_symbol, lit_relation_then, literal_then, load_then, loads_then, minus_then, more_dtasks_then, more_exprs_then, more_lits_then, name_then, negation_then, number_then, operand_then, operands_then, optional_then, picking_symbol, picking_then, presence_then, product_then, quantifier_symbol, quantifier_then, relation_symbol, relation_then, relaxing_symbol, relaxing_then, sign_symbol, sign_then, splitting_symbol, splitting_then, statement_then, tag_then, tags_then, tests_then, tree_then, values_then}
+use Rattle.sm_syntax.specs.Steps.{Steps, addends_then, aim_then, bind_then, binding_then, choice_then, choices_then, choosing_symbol, choosing_then, claim_then, claims_then, cmp_then, comparison_then, comparisons_then, conjunction_then, conjunctions_then, constraint_then, ctask_then, ctasks_then, disjunction_then, dtask_then, ending_then, expression_then, expressions_then, family_then, for_each_then, forall_then, further_side, goal_then, indices_then, item_then, items_then, kind_then, level_symbol, level_then, list_then, listing_then, lit_relation_symbol, lit_relation_then, literal_then, load_then, loads_then, minus_then, more_dtasks_then, more_exprs_then, more_lits_then, name_then, negation_then, number_then, operand_then, operands_then, optional_then, picking_symbol, picking_then, presence_then, product_then, quantifier_symbol, quantifier_then, relation_symbol, relation_then, relaxing_symbol, relaxing_then, sign_symbol, sign_then, splitting_symbol, splitting_then, statement_then, tag_then, tags_then, tests_then, tree_then, values_then}
 
 -- ---- two alternatives
 
@@ -749,15 +750,28 @@ one_aim (t.maximise p1 x1) (t.maximise p2 x2) r s e =
     (cc (q0.0), q0.1)
 one_aim (t.maximise p1 x1) _ r s e = absurd (apart (g.token_maximise ∷ g.expr ∷ []) _ _ e refl refl)
 
+-- the side tells how many there are
+more_aims : (xs ys : List t.Aim) (r s : Steps) → further_side xs ≡ further_side ys → each aim_then xs r ≡ each aim_then ys s → (xs ≡ ys) × (r ≡ s)
+more_aims [] [] r s side e = (refl, e)
+more_aims [] (y ∷ ys) r s side e = absurd (cc)
+more_aims (x ∷ xs) [] r s side e = absurd (cc)
+more_aims (x ∷ xs) (y ∷ ys) r s side e =
+    let rest : further_side xs ≡ further_side ys = cc in
+    let q0 = one_aim x y (each aim_then xs r) (each aim_then ys s) e in
+    let q1 = more_aims xs ys r s rest q0.1 in
+    (cc (q0.0, q1.0), q1.1)
+
 pub one_goal : (a b : t.Goal) (r s : Steps) → goal_then a r ≡ goal_then b s → (a ≡ b) × (r ≡ s)
 one_goal (t.satisfy p1) (t.satisfy p2) r s e =
     (cc, cc)
 one_goal (t.satisfy p1) _ r s e = absurd (apart (g.token_satisfy ∷ []) _ _ e refl refl)
-one_goal (t.aims p1 a1) (t.aims p2 a2) r s e =
-    let h0 : aim_then a1 r ≡ aim_then a2 s = cc in
-    let q0 = one_aim a1 a2 r s h0 in
-    (cc (q0.0), q0.1)
-one_goal (t.aims p1 a1) _ r s e = absurd (apart (g.aim ∷ []) _ _ e refl refl)
+one_goal (t.aims p1 x1 xs1) (t.aims p2 x2 xs2) r s e =
+    let h0 : aim_then x1 (each aim_then xs1 r) ≡ aim_then x2 (each aim_then xs2 s) = cc in
+    let side : further_side xs1 ≡ further_side xs2 = cc in
+    let q0 = one_aim x1 x2 (each aim_then xs1 r) (each aim_then xs2 s) h0 in
+    let q1 = more_aims xs1 xs2 r s side q0.1 in
+    (cc (q0.0, q1.0), q1.1)
+one_goal (t.aims p1 x1 xs1) (t.satisfy p2) r s e = absurd (apart (g.token_satisfy ∷ []) _ _ (sym e) refl refl)
 
 pub one_tree : (a b : t.Tree) (r s : Steps) → tree_then a r ≡ tree_then b s → (a ≡ b) × (r ≡ s)
 one_tree (t.tree p1 is1 x1) (t.tree p2 is2 x2) r s e =

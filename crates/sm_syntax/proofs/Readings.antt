@@ -108,6 +108,18 @@ pub opened_rule : (s : State) (A : ℕ) (rhs : List Symbol) (p : Place) → is_r
     → Leads s (node A ∷ []) (λ r. becomes (node A) rhs ∷ stands_at p ∷ r) s rhs
 opened_rule s A rhs p named at is = restep (λ r. becomes (node A) rhs ∷ stands_at p ∷ r) (λ r. rw (named, at) refl) (opened s A rhs is)
 
+-- the whole right side is read
+pub rule_reads : {s t : State} {rhs : List Symbol} {f : List Step → List Step} (A : ℕ) (p : Place) → is_rule A ≡ true → p ≡ s.first.place → predict grammar A (next s) ≡ Some rhs
+    → Leads s rhs f t [] → Leads s (node A ∷ []) (λ r. becomes (node A) rhs ∷ stands_at p ∷ f r) t []
+rule_reads {s} {t} {rhs} {f} A p named at is lead = after (opened_rule s A rhs p named at is) lead
+
+pub rule_fails : (s t : State) (e : Failure) (A : ℕ) {rhs : List Symbol} → predict grammar A (next s) ≡ Some rhs → Fault s rhs t e → Fault s (node A ∷ []) t e
+rule_fails s t e A {rhs} is fault = fault_after t e (opened s A rhs is) fault
+
+pub group_reads : {s t : State} {rhs : List Symbol} {f : List Step → List Step} (A : ℕ) → is_rule A ≡ false → predict grammar A (next s) ≡ Some rhs
+    → Leads s rhs f t [] → Leads s (node A ∷ []) (λ r. becomes (node A) rhs ∷ f r) t []
+group_reads {s} {t} {rhs} {f} A group is lead = after (opened_group s A rhs group is) lead
+
 -- ---- lists
 
 pub each_more : {X : Type 0} (f : X → List Step → List Step) (xs : List X) (x : X) (r : List Step) → each f (xs ++ x ∷ []) r ≡ each f xs (f x r)

@@ -345,9 +345,14 @@ abbrev pub aim_then : t.Aim → Steps → Steps
 aim_then (t.minimise p x) r = rule g.aim (g.token_minimise ∷ g.expr ∷ []) p (expression_then x r)
 aim_then (t.maximise p x) r = rule g.aim (g.token_maximise ∷ g.expr ∷ []) p (expression_then x r)
 
+-- what stands behind the first aim where there are more; the grammar has one aim alone
+abbrev pub further_side : List t.Aim → List Symbol
+further_side [] = []
+further_side (x ∷ xs) = g.token_then ∷ g.aim ∷ further_side xs
+
 abbrev pub goal_then : t.Goal → Steps → Steps
 goal_then (t.satisfy p) r = rule g.goal (g.token_satisfy ∷ []) p r
-goal_then (t.aims p a) r = rule g.goal (g.aim ∷ []) p (aim_then a r)
+goal_then (t.aims p x xs) r = rule g.goal (g.aim ∷ further_side xs) p (aim_then x (each aim_then xs r))
 
 abbrev pub tree_then : t.Tree → Steps → Steps
 tree_then (t.tree p is x) r = rule g.model (g.items ∷ g.goal ∷ g.token_semicolon ∷ []) p (items_then is (goal_then x r))

@@ -125,9 +125,10 @@ pub data Aim : Type 0 where
   minimise : Place → Expression → Aim
   maximise : Place → Expression → Aim
 
+-- any solution, or aims in the order of their rank: the first, and more
 pub data Goal : Type 0 where
   satisfy : Place → Goal
-  aims : Place → Aim → Goal
+  aims : Place → Aim → List Aim → Goal
 
 pub data Item : Type 0 where
   index_item : Place → Name → Expression → Expression → Item
@@ -152,7 +153,7 @@ aim_of (aim_node.Maximise p x) = maximise p (expression_of x)
 
 abbrev pub goal_of : GoalNode → Goal
 goal_of (goal_node.Satisfy p) = satisfy p
-goal_of (goal_node.Aim p a) = aims p (aim_of a)
+goal_of (goal_node.Aims p x xs) = aims p (aim_of x) (map aim_of xs)
 
 abbrev pub item_of : ItemNode → Item
 item_of (item_node.Index p n l u) = index_item p n (expression_of l) (expression_of u)

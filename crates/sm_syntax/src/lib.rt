@@ -8,11 +8,8 @@ ghost use Rattle.sm_syntax.specs.Trees.{tree_of, Tree as PlainTree};
 mod expression;
 mod failure;
 mod formula;
-#[cfg(test)]
-mod model_tests;
+mod part;
 mod place;
-#[cfg(test)]
-mod printer;
 mod read_constraint;
 mod read_expression;
 mod read_formula;
@@ -20,9 +17,8 @@ mod read_list;
 mod read_model;
 mod read_tag;
 mod reader;
+mod sign;
 mod terminal;
-#[cfg(test)]
-mod tests;
 mod token;
 mod tree;
 mod words;

@@ -7,15 +7,15 @@ ghost use Rattle.sm_syntax.specs.Trees.{constraint_of};
 ghost use Rattle.sm_syntax.specs.Steps.{cmp_then, more_lits_then, choosing_then, constraint_then};
 ghost use Rattle.sm_syntax.specs.Symbols.{choosing_of};
 
+use crate::expression::Expr;
 use crate::failure::Failure;
-use crate::read_expression::read_expr;
-use crate::read_formula::{read_formula, read_lit};
-use crate::read_list::{
-    read_choices, read_ctasks, read_dtask, read_list, read_loads, read_more_dtasks, read_table,
-};
+use crate::formula::Formula;
+use crate::part::{Mark, Pair, Part, Within, read_behind};
+use crate::read_list::Table;
 use crate::reader::Reader;
+use crate::sign::{Comma, Round, Semicolon, Then};
 use crate::terminal::Terminal;
-use crate::tree::{Choosing, Cmp, Cons, Lit};
+use crate::tree::{Choice, Choosing, Cmp, Cons, Ctask, Dtask, List, Lit, Load};
 use sqlite_items::Items;
 use std::alloc::Global;
 
@@ -60,15 +60,24 @@ fn read_cmp(reader: &mut Reader<'_>) -> Result<Cmp, Failure>
     }
 }
 
+impl Part for Cmp {
+    ghost symbols = { g.cmp ∷ [] };
+
+    ghost steps = { cmp_then };
+
+    fn read(_alloc: Global, reader: &mut Reader<'_>) -> Result<Cmp, Failure> {
+        read_cmp(reader)
+    }
+}
+
 /// Reads a linear constraint.
 fn read_linear(alloc: Global, reader: &mut Reader<'_>) -> Result<Cons, Failure>
     requires { Chooses reader.old g.cons (g.expr ∷ g.cmp ∷ g.expr ∷ []) }
     ensures { Reads reader.old (g.cons ∷ []) (λ x. constraint_then (constraint_of x)) reader.new result }
 {
     let place = reader.place();
-    let left = read_expr(alloc, reader)?;
-    let cmp = read_cmp(reader)?;
-    let right = read_expr(alloc, reader)?;
+    let parts = Pair::<Expr, Pair<Cmp, Expr>>::read(alloc, reader)?;
+    let Pair(left, Pair(cmp, right)) = parts;
     Ok(Cons::Linear {
         place,
         left,
@@ -83,22 +92,27 @@ fn read_logic(alloc: Global, reader: &mut Reader<'_>) -> Result<Cons, Failure>
     ensures { Reads reader.old (g.cons ∷ []) (λ x. constraint_then (constraint_of x)) reader.new result }
 {
     let place = reader.place();
-    reader.expect(Terminal::Logic)?;
-    let formula = read_formula(alloc, reader)?;
+    let formula = read_behind::<Formula>(alloc, reader, Terminal::Logic)?;
     Ok(Cons::Logic { place, formula })
 }
 
-/// Reads the further literals of a condition.
-fn read_more_lits(alloc: Global, reader: &mut Reader<'_>) -> Result<Items<Lit>, Failure>
-    ensures { Reads reader.old (g.more_lits ∷ []) (λ ls. more_lits_then (map literal_of ls)) reader.new result }
-{
-    let mut lits = Items::new(alloc);
-    'lits: while reader.accept(Terminal::Comma) {
-        let lit = read_lit(alloc, reader)?;
-        lits.push(lit)?;
+impl Part for Items<Lit> {
+    ghost symbols = { g.more_lits ∷ [] };
+
+    ghost steps = { λ xs. more_lits_then (map literal_of xs) };
+
+    fn read(alloc: Global, reader: &mut Reader<'_>) -> Result<Items<Lit>, Failure> {
+        let mut lits = Items::new(alloc);
+        'lits: while reader.accept(Terminal::Comma) {
+            let lit = Lit::read(alloc, reader)?;
+            lits.push(lit)?;
+        }
+        Ok(lits)
     }
-    Ok(lits)
 }
+
+/// What stands behind the word of a row with a condition.
+type WhenParts = Pair<Lit, Pair<Items<Lit>, Pair<Mark<Then>, Pair<Expr, Pair<Cmp, Expr>>>>>;
 
 /// Reads a row that holds under a condition.
 fn read_when(alloc: Global, reader: &mut Reader<'_>) -> Result<Cons, Failure>
@@ -106,13 +120,8 @@ fn read_when(alloc: Global, reader: &mut Reader<'_>) -> Result<Cons, Failure>
     ensures { Reads reader.old (g.cons ∷ []) (λ x. constraint_then (constraint_of x)) reader.new result }
 {
     let place = reader.place();
-    reader.expect(Terminal::When)?;
-    let first = read_lit(alloc, reader)?;
-    let more = read_more_lits(alloc, reader)?;
-    reader.expect(Terminal::Then)?;
-    let left = read_expr(alloc, reader)?;
-    let cmp = read_cmp(reader)?;
-    let right = read_expr(alloc, reader)?;
+    let parts = read_behind::<WhenParts>(alloc, reader, Terminal::When)?;
+    let Pair(first, Pair(more, Pair(_, Pair(left, Pair(cmp, right))))) = parts;
     Ok(Cons::When {
         place,
         first,
@@ -129,10 +138,8 @@ fn read_alldiff(alloc: Global, reader: &mut Reader<'_>) -> Result<Cons, Failure>
     ensures { Reads reader.old (g.cons ∷ []) (λ x. constraint_then (constraint_of x)) reader.new result }
 {
     let place = reader.place();
-    reader.expect(Terminal::Alldiff)?;
-    reader.open(Terminal::OpenRound)?;
-    let list = read_list(alloc, reader)?;
-    reader.close(Terminal::CloseRound)?;
+    let parts = read_behind::<Within<Round, List>>(alloc, reader, Terminal::Alldiff)?;
+    let Within(list, _) = parts;
     Ok(Cons::Alldiff { place, list })
 }
 
@@ -142,12 +149,16 @@ fn read_circuit(alloc: Global, reader: &mut Reader<'_>) -> Result<Cons, Failure>
     ensures { Reads reader.old (g.cons ∷ []) (λ x. constraint_then (constraint_of x)) reader.new result }
 {
     let place = reader.place();
-    reader.expect(Terminal::Circuit)?;
-    reader.open(Terminal::OpenRound)?;
-    let list = read_list(alloc, reader)?;
-    reader.close(Terminal::CloseRound)?;
+    let parts = read_behind::<Within<Round, List>>(alloc, reader, Terminal::Circuit)?;
+    let Within(list, _) = parts;
     Ok(Cons::Circuit { place, list })
 }
+
+/// What stands behind the word of an element constraint.
+type ElementParts = Within<
+    Round,
+    Pair<Expr, Pair<Mark<Comma>, Pair<Table, Pair<Mark<Comma>, Expr>>>>,
+>;
 
 /// Reads an element constraint.
 fn read_element(alloc: Global, reader: &mut Reader<'_>) -> Result<Cons, Failure>
@@ -155,14 +166,8 @@ fn read_element(alloc: Global, reader: &mut Reader<'_>) -> Result<Cons, Failure>
     ensures { Reads reader.old (g.cons ∷ []) (λ x. constraint_then (constraint_of x)) reader.new result }
 {
     let place = reader.place();
-    reader.expect(Terminal::Element)?;
-    reader.open(Terminal::OpenRound)?;
-    let index = read_expr(alloc, reader)?;
-    reader.expect(Terminal::Comma)?;
-    let entries = read_table(alloc, reader)?;
-    reader.expect(Terminal::Comma)?;
-    let value = read_expr(alloc, reader)?;
-    reader.close(Terminal::CloseRound)?;
+    let parts = read_behind::<ElementParts>(alloc, reader, Terminal::Element)?;
+    let Within(Pair(index, Pair(_, Pair(Within(entries, _), Pair(_, value)))), _) = parts;
     Ok(Cons::Element {
         place,
         index,
@@ -194,17 +199,27 @@ fn read_choosing(reader: &mut Reader<'_>) -> Result<Choosing, Failure>
     Ok(choosing)
 }
 
+impl Part for Choosing {
+    ghost symbols = { g.choosing ∷ [] };
+
+    ghost steps = { choosing_then };
+
+    fn read(_alloc: Global, reader: &mut Reader<'_>) -> Result<Choosing, Failure> {
+        read_choosing(reader)
+    }
+}
+
+/// The right side of a sum of chosen entries.
+type ChosenParts = Pair<Choosing, Within<Round, Pair<Expr, Items<Choice>>>>;
+
 /// Reads a sum of chosen entries.
 fn read_chosen(alloc: Global, reader: &mut Reader<'_>) -> Result<Cons, Failure>
     requires { Chooses reader.old g.cons (g.choosing ∷ g.token_open_round ∷ g.expr ∷ g.choices ∷ g.token_close_round ∷ []) }
     ensures { Reads reader.old (g.cons ∷ []) (λ x. constraint_then (constraint_of x)) reader.new result }
 {
     let place = reader.place();
-    let choosing = read_choosing(reader)?;
-    reader.open(Terminal::OpenRound)?;
-    let total = read_expr(alloc, reader)?;
-    let choices = read_choices(alloc, reader)?;
-    reader.close(Terminal::CloseRound)?;
+    let parts = ChosenParts::read(alloc, reader)?;
+    let Pair(choosing, Within(Pair(total, choices), _)) = parts;
     Ok(Cons::Choices {
         place,
         choosing,
@@ -213,17 +228,17 @@ fn read_chosen(alloc: Global, reader: &mut Reader<'_>) -> Result<Cons, Failure>
     })
 }
 
+/// What stands behind the word of tasks that share a capacity.
+type CumulativeParts = Within<Round, Pair<Expr, Items<Ctask>>>;
+
 /// Reads tasks that share a capacity.
 fn read_cumulative(alloc: Global, reader: &mut Reader<'_>) -> Result<Cons, Failure>
     requires { Chooses reader.old g.cons (g.token_cumulative ∷ g.token_open_round ∷ g.expr ∷ g.ctasks ∷ g.token_close_round ∷ []) }
     ensures { Reads reader.old (g.cons ∷ []) (λ x. constraint_then (constraint_of x)) reader.new result }
 {
     let place = reader.place();
-    reader.expect(Terminal::Cumulative)?;
-    reader.open(Terminal::OpenRound)?;
-    let capacity = read_expr(alloc, reader)?;
-    let tasks = read_ctasks(alloc, reader)?;
-    reader.close(Terminal::CloseRound)?;
+    let parts = read_behind::<CumulativeParts>(alloc, reader, Terminal::Cumulative)?;
+    let Within(Pair(capacity, tasks), _) = parts;
     Ok(Cons::Cumulative {
         place,
         capacity,
@@ -231,19 +246,25 @@ fn read_cumulative(alloc: Global, reader: &mut Reader<'_>) -> Result<Cons, Failu
     })
 }
 
+/// What stands behind the word of tasks of which no two may run at once.
+type DisjunctiveParts = Within<Round, Pair<Dtask, Items<Dtask>>>;
+
 /// Reads tasks of which no two may run at once.
 fn read_disjunctive(alloc: Global, reader: &mut Reader<'_>) -> Result<Cons, Failure>
     requires { Chooses reader.old g.cons (g.token_disjunctive ∷ g.token_open_round ∷ g.dtask ∷ g.more_dtasks ∷ g.token_close_round ∷ []) }
     ensures { Reads reader.old (g.cons ∷ []) (λ x. constraint_then (constraint_of x)) reader.new result }
 {
     let place = reader.place();
-    reader.expect(Terminal::Disjunctive)?;
-    reader.open(Terminal::OpenRound)?;
-    let first = read_dtask(alloc, reader)?;
-    let more = read_more_dtasks(alloc, reader)?;
-    reader.close(Terminal::CloseRound)?;
+    let parts = read_behind::<DisjunctiveParts>(alloc, reader, Terminal::Disjunctive)?;
+    let Within(Pair(first, more), _) = parts;
     Ok(Cons::Disjunctive { place, first, more })
 }
+
+/// What stands behind the word of a packing.
+type PackingParts = Within<
+    Round,
+    Pair<Expr, Pair<Mark<Semicolon>, Pair<Table, Pair<Mark<Semicolon>, Pair<Table, Items<Load>>>>>>,
+>;
 
 /// Reads a packing.
 fn read_packing(alloc: Global, reader: &mut Reader<'_>) -> Result<Cons, Failure>
@@ -251,15 +272,11 @@ fn read_packing(alloc: Global, reader: &mut Reader<'_>) -> Result<Cons, Failure>
     ensures { Reads reader.old (g.cons ∷ []) (λ x. constraint_then (constraint_of x)) reader.new result }
 {
     let place = reader.place();
-    reader.expect(Terminal::Packing)?;
-    reader.open(Terminal::OpenRound)?;
-    let cost = read_expr(alloc, reader)?;
-    reader.expect(Terminal::Semicolon)?;
-    let capacities = read_table(alloc, reader)?;
-    reader.expect(Terminal::Semicolon)?;
-    let openings = read_table(alloc, reader)?;
-    let loads = read_loads(alloc, reader)?;
-    reader.close(Terminal::CloseRound)?;
+    let parts = read_behind::<PackingParts>(alloc, reader, Terminal::Packing)?;
+    let Within(
+        Pair(cost, Pair(_, Pair(Within(capacities, _), Pair(_, Pair(Within(openings, _), loads))))),
+        _,
+    ) = parts;
     Ok(Cons::Packing {
         place,
         cost,
@@ -270,7 +287,7 @@ fn read_packing(alloc: Global, reader: &mut Reader<'_>) -> Result<Cons, Failure>
 }
 
 /// Reads a constraint.
-pub fn read_cons(alloc: Global, reader: &mut Reader<'_>) -> Result<Cons, Failure>
+fn read_cons(alloc: Global, reader: &mut Reader<'_>) -> Result<Cons, Failure>
     ensures { Reads reader.old (g.cons ∷ []) (λ x. constraint_then (constraint_of x)) reader.new result }
 {
     match reader.terminal() {
@@ -285,5 +302,15 @@ pub fn read_cons(alloc: Global, reader: &mut Reader<'_>) -> Result<Cons, Failure
         Terminal::Disjunctive => read_disjunctive(alloc, reader),
         Terminal::Packing => read_packing(alloc, reader),
         _ => read_linear(alloc, reader),
+    }
+}
+
+impl Part for Cons {
+    ghost symbols = { g.cons ∷ [] };
+
+    ghost steps = { λ x. constraint_then (constraint_of x) };
+
+    fn read(alloc: Global, reader: &mut Reader<'_>) -> Result<Cons, Failure> {
+        read_cons(alloc, reader)
     }
 }

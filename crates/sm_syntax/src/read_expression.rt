@@ -3,15 +3,17 @@ ghost use Rattle.std.specs.Prelude.{◌≡◌, ◌<◌, ◌∷◌, [], None, Som
 ghost use Rattle.sm_syntax.specs.Grammars.{leaf, predict};
 ghost use Rattle.sm_syntax.specs.Grammar as g;
 ghost use Rattle.sm_syntax.specs.Reading.{State, next, Leads, Reads, Chooses};
-ghost use Rattle.sm_syntax.specs.Expressions.{expression_of, binding_of, factor_of, term_of, test_of, operands_of, expressions_of, comparisons_of};
-ghost use Rattle.sm_syntax.specs.Steps.{sign_then, minus_then, relation_then, bind_then, list_then, expression_then, product_then, operand_then, operands_then, indices_then, binding_then, tests_then, comparison_then};
+ghost use Rattle.sm_syntax.specs.Expressions.{expression_of, binding_of, factor_of, term_of, test_of, addends_of, operands_of, addend_of, expressions_of, comparisons_of};
+ghost use Rattle.sm_syntax.specs.Steps.{sign_then, minus_then, relation_then, bind_then, list_then, more_exprs_then, expression_then, addends_then, product_then, operand_then, operands_then, indices_then, binding_then, tests_then, comparisons_then, comparison_then};
 ghost use Rattle.sm_syntax.specs.Symbols.{sign_of, relation_of, begins_sign};
 
 use crate::expression::{Addend, Binders, Expr, Factor, Term, Test};
 use crate::failure::Failure;
+use crate::part::{Mark, Pair, Part, gathered};
 use crate::reader::Reader;
+use crate::sign::In;
 use crate::terminal::Terminal;
-use crate::tree::{Bind, Relation, Sign};
+use crate::tree::{Bind, Name, Relation, Sign};
 use sqlite_items::{Boxed, Items};
 use std::alloc::Global;
 
@@ -83,45 +85,62 @@ fn read_relation(reader: &mut Reader<'_>) -> Result<Relation, Failure>
     Ok(relation)
 }
 
-/// Reads a bind.
-fn read_bind(alloc: Global, reader: &mut Reader<'_>) -> Result<Bind, Failure>
-    ensures { Reads reader.old (g.bind ∷ []) bind_then reader.new result }
-{
-    let place = reader.place();
-    let name = reader.name(alloc)?;
-    reader.expect(Terminal::In)?;
-    let set = reader.name(alloc)?;
-    Ok(Bind { place, name, set })
+/// The right side of a bind.
+type BindParts = Pair<Name, Pair<Mark<In>, Name>>;
+
+impl Part for Bind {
+    ghost symbols = { g.bind ∷ [] };
+
+    ghost steps = { bind_then };
+
+    fn read(alloc: Global, reader: &mut Reader<'_>) -> Result<Bind, Failure> {
+        let place = reader.place();
+        let parts = BindParts::read(alloc, reader)?;
+        let Pair(name, Pair(_, set)) = parts;
+        Ok(Bind { place, name, set })
+    }
 }
 
-/// Reads the further binds.
-fn read_more_binds(alloc: Global, reader: &mut Reader<'_>) -> Result<Items<Bind>, Failure>
-    ensures { Reads reader.old (g.more_binds ∷ []) (list_then g.more_binds (g.token_comma ∷ g.bind ∷ g.more_binds ∷ []) bind_then) reader.new result }
-{
-    let mut binds = Items::new(alloc);
-    'binds: while reader.accept(Terminal::Comma) {
-        let bind = read_bind(alloc, reader)?;
-        binds.push(bind)?;
+impl Part for Items<Bind> {
+    ghost symbols = { g.more_binds ∷ [] };
+
+    ghost steps = { λ xs. list_then g.more_binds (g.token_comma ∷ g.bind ∷ g.more_binds ∷ []) bind_then xs };
+
+    fn read(alloc: Global, reader: &mut Reader<'_>) -> Result<Items<Bind>, Failure> {
+        let mut binds = Items::new(alloc);
+        'binds: while reader.accept(Terminal::Comma) {
+            let bind = Bind::read(alloc, reader)?;
+            binds.push(bind)?;
+        }
+        Ok(binds)
     }
-    Ok(binds)
 }
 
 /// Reads an expression.
 #[cycle(expression)]
-pub fn read_expr(alloc: Global, reader: &mut Reader<'_>) -> Result<Expr, Failure>
+fn read_expr(alloc: Global, reader: &mut Reader<'_>) -> Result<Expr, Failure>
     ensures { Reads reader.old (g.expr ∷ []) (λ x. expression_then (expression_of x)) reader.new result }
 {
     let place = reader.place();
     let is_negated = read_minus(reader);
     let first = read_term(alloc, reader)?;
-    let mut more = Items::new(alloc);
+    let more = read_more_terms(alloc, reader)?;
+    Ok(Expr::new(place, is_negated, first, more))
+}
+
+/// Reads the further terms of an expression.
+#[cycle(expression)]
+fn read_more_terms(alloc: Global, reader: &mut Reader<'_>) -> Result<Items<Addend>, Failure>
+    ensures { Reads reader.old (g.more_terms ∷ []) (λ xs. addends_then (addends_of (map addend_of xs))) reader.new result }
+{
+    let mut terms = Items::new(alloc);
     'terms: while begins_sign(reader.terminal()) {
         let sign = read_sign(reader)?;
         let term = read_term(alloc, reader)?;
         let addend = Addend::new(sign, term);
-        more.push(addend)?;
+        terms.push(addend)?;
     }
-    Ok(Expr::new(place, is_negated, first, more))
+    Ok(terms)
 }
 
 /// Reads a term.
@@ -193,16 +212,23 @@ fn read_indices(alloc: Global, reader: &mut Reader<'_>) -> Result<Items<Expr>, F
     }
     reader.open(Terminal::OpenSquare)?;
     let first = read_expr(alloc, reader)?;
-    let mut more = Items::new(alloc);
-    'indices: while reader.accept(Terminal::Comma) {
-        let index = read_expr(alloc, reader)?;
-        more.push(index)?;
-    }
+    let more = read_more_exprs(alloc, reader)?;
+    let indices = gathered(alloc, first, more)?;
     reader.close(Terminal::CloseSquare)?;
-    let mut indices = Items::new(alloc);
-    indices.push(first)?;
-    indices.append(more)?;
     Ok(indices)
+}
+
+/// Reads the further expressions of a list.
+#[cycle(expression)]
+fn read_more_exprs(alloc: Global, reader: &mut Reader<'_>) -> Result<Items<Expr>, Failure>
+    ensures { Reads reader.old (g.more_exprs ∷ []) (λ xs. more_exprs_then (map expression_of xs)) reader.new result }
+{
+    let mut exprs = Items::new(alloc);
+    'exprs: while reader.accept(Terminal::Comma) {
+        let expr = read_expr(alloc, reader)?;
+        exprs.push(expr)?;
+    }
+    Ok(exprs)
 }
 
 /// Reads an expression in brackets.
@@ -212,11 +238,20 @@ fn read_group(alloc: Global, reader: &mut Reader<'_>) -> Result<Factor, Failure>
     ensures { Reads reader.old (g.factor ∷ []) (λ x. operand_then (factor_of x)) reader.new result }
 {
     let place = reader.place();
+    let inner = read_bracketed(alloc, reader)?;
+    reader.close(Terminal::CloseRound)?;
+    Ok(Factor::from_group(place, inner))
+}
+
+/// Reads an expression with the bracket before it.
+#[cycle(expression)]
+fn read_bracketed(alloc: Global, reader: &mut Reader<'_>) -> Result<Boxed<Expr>, Failure>
+    ensures { Reads reader.old (g.token_open_round ∷ g.expr ∷ []) (λ x. expression_then (expression_of x)) reader.new result }
+{
     reader.open(Terminal::OpenRound)?;
     let inner = read_expr(alloc, reader)?;
-    reader.close(Terminal::CloseRound)?;
     let inner = Boxed::new(alloc, inner)?;
-    Ok(Factor::from_group(place, inner))
+    Ok(inner)
 }
 
 /// Reads a sum over tuples.
@@ -227,24 +262,31 @@ fn read_sum(alloc: Global, reader: &mut Reader<'_>) -> Result<Factor, Failure>
 {
     let place = reader.place();
     reader.expect(Terminal::Sum)?;
-    reader.open(Terminal::OpenRound)?;
-    let summand = read_expr(alloc, reader)?;
-    reader.expect(Terminal::For)?;
-    let binders = read_binders(alloc, reader)?;
-    reader.close(Terminal::CloseRound)?;
-    let summand = Boxed::new(alloc, summand)?;
+    let summand = read_bracketed(alloc, reader)?;
+    let binders = read_scope(alloc, reader)?;
     let binders = Boxed::new(alloc, binders)?;
     Ok(Factor::from_sum(place, summand, binders))
 }
 
+/// Reads the binders of a sum or a quantifier, with the word before them and the bracket behind them.
+#[cycle(expression)]
+pub fn read_scope(alloc: Global, reader: &mut Reader<'_>) -> Result<Binders, Failure>
+    ensures { Reads reader.old (g.token_for ∷ g.binders ∷ g.token_close_round ∷ []) (λ b. binding_then (binding_of b)) reader.new result }
+{
+    reader.expect(Terminal::For)?;
+    let binders = read_binders(alloc, reader)?;
+    reader.close(Terminal::CloseRound)?;
+    Ok(binders)
+}
+
 /// Reads binders.
 #[cycle(expression)]
-pub fn read_binders(alloc: Global, reader: &mut Reader<'_>) -> Result<Binders, Failure>
+fn read_binders(alloc: Global, reader: &mut Reader<'_>) -> Result<Binders, Failure>
     ensures { Reads reader.old (g.binders ∷ []) (λ b. binding_then (binding_of b)) reader.new result }
 {
     let place = reader.place();
-    let first = read_bind(alloc, reader)?;
-    let more = read_more_binds(alloc, reader)?;
+    let parts = Pair::<Bind, Items<Bind>>::read(alloc, reader)?;
+    let Pair(first, more) = parts;
     let tests = read_tests(alloc, reader)?;
     Ok(Binders::new(place, first, more, tests))
 }
@@ -258,14 +300,21 @@ fn read_tests(alloc: Global, reader: &mut Reader<'_>) -> Result<Items<Test>, Fai
         return Ok(Items::new(alloc));
     }
     let first = read_test(alloc, reader)?;
-    let mut more = Items::new(alloc);
+    let more = read_more_tests(alloc, reader)?;
+    let tests = gathered(alloc, first, more)?;
+    Ok(tests)
+}
+
+/// Reads the further tests.
+#[cycle(expression)]
+fn read_more_tests(alloc: Global, reader: &mut Reader<'_>) -> Result<Items<Test>, Failure>
+    ensures { Reads reader.old (g.more_tests ∷ []) (λ ts. comparisons_then (comparisons_of (map test_of ts))) reader.new result }
+{
+    let mut tests = Items::new(alloc);
     'tests: while reader.accept(Terminal::And) {
         let test = read_test(alloc, reader)?;
-        more.push(test)?;
+        tests.push(test)?;
     }
-    let mut tests = Items::new(alloc);
-    tests.push(first)?;
-    tests.append(more)?;
     Ok(tests)
 }
 
@@ -279,4 +328,34 @@ fn read_test(alloc: Global, reader: &mut Reader<'_>) -> Result<Test, Failure>
     let relation = read_relation(reader)?;
     let right = read_expr(alloc, reader)?;
     Ok(Test::new(place, left, relation, right))
+}
+
+impl Part for Expr {
+    ghost symbols = { g.expr ∷ [] };
+
+    ghost steps = { λ x. expression_then (expression_of x) };
+
+    fn read(alloc: Global, reader: &mut Reader<'_>) -> Result<Expr, Failure> {
+        read_expr(alloc, reader)
+    }
+}
+
+impl Part for Binders {
+    ghost symbols = { g.binders ∷ [] };
+
+    ghost steps = { λ b. binding_then (binding_of b) };
+
+    fn read(alloc: Global, reader: &mut Reader<'_>) -> Result<Binders, Failure> {
+        read_binders(alloc, reader)
+    }
+}
+
+impl Part for Items<Expr> {
+    ghost symbols = { g.more_exprs ∷ [] };
+
+    ghost steps = { λ xs. more_exprs_then (map expression_of xs) };
+
+    fn read(alloc: Global, reader: &mut Reader<'_>) -> Result<Items<Expr>, Failure> {
+        read_more_exprs(alloc, reader)
+    }
 }

@@ -2,17 +2,19 @@
 ghost use Rattle.std.specs.Prelude.{◌≡◌, ◌∷◌, [], false, IfOk};
 ghost use Rattle.sm_syntax.specs.Grammar as g;
 ghost use Rattle.sm_syntax.specs.Reading.{State, Leads, Reads, ReadsTo, Chooses, each, is_next};
-ghost use Rattle.sm_syntax.specs.Expressions.{literal_of, binding_of};
+ghost use Rattle.sm_syntax.specs.Expressions.{literal_of};
 ghost use Rattle.sm_syntax.specs.Formulas.{formula_of, conclusion_of, disj_of, conj_of, unit_of, atom_of};
-ghost use Rattle.sm_syntax.specs.Steps.{lit_relation_then, quantifier_then, literal_then, binding_then, negation_then, statement_then, ending_then, disjunction_then, conjunction_then, claim_then};
+ghost use Rattle.sm_syntax.specs.Steps.{lit_relation_then, quantifier_then, literal_then, negation_then, statement_then, ending_then, disjunction_then, conjunction_then, claim_then};
 ghost use Rattle.sm_syntax.specs.Symbols.{lit_relation_of, quantifier_of};
 
-use crate::expression::Binders;
+use crate::expression::{Binders, Expr};
 use crate::failure::Failure;
 use crate::formula::{Atom, Conclusion, Conj, Disj, Formula, Quantifier, Unit};
+use crate::part::{Pair, Part, Within};
 use crate::place::Place;
-use crate::read_expression::{read_binders, read_expr};
+use crate::read_expression::read_scope;
 use crate::reader::Reader;
+use crate::sign::Square;
 use crate::terminal::Terminal;
 use crate::tree::{Lit, LitRelation};
 use sqlite_items::{Boxed, Items};
@@ -66,22 +68,35 @@ fn read_quantifier(reader: &mut Reader<'_>) -> Result<Quantifier, Failure>
     Ok(quantifier)
 }
 
-/// Reads a literal.
-pub fn read_lit(alloc: Global, reader: &mut Reader<'_>) -> Result<Lit, Failure>
-    ensures { Reads reader.old (g.lit ∷ []) (λ l. literal_then (literal_of l)) reader.new result }
-{
-    let place = reader.place();
-    reader.open(Terminal::OpenSquare)?;
-    let left = read_expr(alloc, reader)?;
-    let relation = read_lit_relation(reader)?;
-    let right = read_expr(alloc, reader)?;
-    reader.close(Terminal::CloseSquare)?;
-    Ok(Lit {
-        place,
-        left,
-        relation,
-        right,
-    })
+impl Part for LitRelation {
+    ghost symbols = { g.lit_relation ∷ [] };
+
+    ghost steps = { lit_relation_then };
+
+    fn read(_alloc: Global, reader: &mut Reader<'_>) -> Result<LitRelation, Failure> {
+        read_lit_relation(reader)
+    }
+}
+
+/// The right side of a literal.
+type LitParts = Within<Square, Pair<Expr, Pair<LitRelation, Expr>>>;
+
+impl Part for Lit {
+    ghost symbols = { g.lit ∷ [] };
+
+    ghost steps = { λ l. literal_then (literal_of l) };
+
+    fn read(alloc: Global, reader: &mut Reader<'_>) -> Result<Lit, Failure> {
+        let place = reader.place();
+        let parts = LitParts::read(alloc, reader)?;
+        let Within(Pair(left, Pair(relation, right)), _) = parts;
+        Ok(Lit {
+            place,
+            left,
+            relation,
+            right,
+        })
+    }
 }
 
 /// Reads the negations before a unit.
@@ -100,7 +115,7 @@ fn read_negations(alloc: Global, reader: &mut Reader<'_>) -> Result<Items<Place>
 
 /// Reads a formula.
 #[cycle(formula)]
-pub fn read_formula(alloc: Global, reader: &mut Reader<'_>) -> Result<Formula, Failure>
+fn read_formula(alloc: Global, reader: &mut Reader<'_>) -> Result<Formula, Failure>
     ensures { Reads reader.old (g.formula ∷ []) (λ f. statement_then (formula_of f)) reader.new result }
 {
     let place = reader.place();
@@ -185,7 +200,7 @@ fn read_lit_atom(alloc: Global, reader: &mut Reader<'_>) -> Result<Atom, Failure
     ensures { Reads reader.old (g.unit ∷ []) (λ a. claim_then (atom_of a)) reader.new result }
 {
     let place = reader.place();
-    let lit = read_lit(alloc, reader)?;
+    let lit = Lit::read(alloc, reader)?;
     Ok(Atom::from_lit(place, lit))
 }
 
@@ -227,12 +242,12 @@ fn read_inner(alloc: Global, reader: &mut Reader<'_>) -> Result<Boxed<Formula>, 
     Ok(inner)
 }
 
-/// Reads the binders of a quantifier, with the bracket behind them.
-fn read_scope(alloc: Global, reader: &mut Reader<'_>) -> Result<Binders, Failure>
-    ensures { Reads reader.old (g.token_for ∷ g.binders ∷ g.token_close_round ∷ []) (λ b. binding_then (binding_of b)) reader.new result }
-{
-    reader.expect(Terminal::For)?;
-    let binders = read_binders(alloc, reader)?;
-    reader.close(Terminal::CloseRound)?;
-    Ok(binders)
+impl Part for Formula {
+    ghost symbols = { g.formula ∷ [] };
+
+    ghost steps = { λ f. statement_then (formula_of f) };
+
+    fn read(alloc: Global, reader: &mut Reader<'_>) -> Result<Formula, Failure> {
+        read_formula(alloc, reader)
+    }
 }

@@ -2,202 +2,226 @@
 ghost use Rattle.std.specs.Prelude.{◌≡◌, ◌∷◌, [], map, option_map};
 ghost use Rattle.sm_syntax.specs.Grammar as g;
 ghost use Rattle.sm_syntax.specs.Reading.{State, Leads, Reads};
-ghost use Rattle.sm_syntax.specs.Expressions.{expression_of, binding_of, literal_of};
+ghost use Rattle.sm_syntax.specs.Expressions.{binding_of, literal_of};
 ghost use Rattle.sm_syntax.specs.Trees.{listing_of, choice_of, ctask_of, dtask_of, load_of};
-ghost use Rattle.sm_syntax.specs.Steps.{more_exprs_then, for_each_then, presence_then, listing_then, choice_then, choices_then, ctask_then, ctasks_then, dtask_then, more_dtasks_then, load_then, loads_then};
+ghost use Rattle.sm_syntax.specs.Steps.{for_each_then, presence_then, listing_then, choice_then, choices_then, ctask_then, ctasks_then, dtask_then, more_dtasks_then, load_then, loads_then};
 
 use crate::expression::{Binders, Expr};
 use crate::failure::Failure;
-use crate::read_expression::{read_binders, read_expr};
-use crate::read_formula::read_lit;
+use crate::part::{Mark, Pair, Part, Within};
 use crate::reader::Reader;
+use crate::sign::{Colon, Comma, Square};
 use crate::terminal::Terminal;
 use crate::tree::{Choice, Ctask, Dtask, List, Lit, Load};
 use sqlite_items::Items;
 use std::alloc::Global;
 
-/// Reads the further expressions of a list.
-pub fn read_more_exprs(alloc: Global, reader: &mut Reader<'_>) -> Result<Items<Expr>, Failure>
-    ensures { Reads reader.old (g.more_exprs ∷ []) (λ xs. more_exprs_then (map expression_of xs)) reader.new result }
-{
-    let mut exprs = Items::new(alloc);
-    'exprs: while reader.accept(Terminal::Comma) {
-        let expr = read_expr(alloc, reader)?;
-        exprs.push(expr)?;
+impl Part for Option<Binders> {
+    ghost symbols = { g.for_each ∷ [] };
+
+    ghost steps = { λ x. for_each_then (option_map binding_of x) };
+
+    fn read(alloc: Global, reader: &mut Reader<'_>) -> Result<Option<Binders>, Failure> {
+        if !reader.accept(Terminal::For) {
+            return Ok(None);
+        }
+        let binders = Binders::read(alloc, reader)?;
+        Ok(Some(binders))
     }
-    Ok(exprs)
 }
 
-/// Reads the binders that a part may have.
-fn read_for_each(alloc: Global, reader: &mut Reader<'_>) -> Result<Option<Binders>, Failure>
-    ensures { Reads reader.old (g.for_each ∷ []) (λ b. for_each_then (option_map binding_of b)) reader.new result }
-{
-    if !reader.accept(Terminal::For) {
-        return Ok(None);
+impl Part for Option<Lit> {
+    ghost symbols = { g.presence ∷ [] };
+
+    ghost steps = { λ x. presence_then (option_map literal_of x) };
+
+    fn read(alloc: Global, reader: &mut Reader<'_>) -> Result<Option<Lit>, Failure> {
+        if !reader.accept(Terminal::When) {
+            return Ok(None);
+        }
+        let lit = Lit::read(alloc, reader)?;
+        Ok(Some(lit))
     }
-    let binders = read_binders(alloc, reader)?;
-    Ok(Some(binders))
 }
 
-/// Reads the literal on which a task may depend.
-fn read_presence(alloc: Global, reader: &mut Reader<'_>) -> Result<Option<Lit>, Failure>
-    ensures { Reads reader.old (g.presence ∷ []) (λ l. presence_then (option_map literal_of l)) reader.new result }
-{
-    if !reader.accept(Terminal::When) {
-        return Ok(None);
+/// The right side of a list.
+type ListParts = Pair<Expr, Pair<Items<Expr>, Option<Binders>>>;
+
+impl Part for List {
+    ghost symbols = { g.list ∷ [] };
+
+    ghost steps = { λ x. listing_then (listing_of x) };
+
+    fn read(alloc: Global, reader: &mut Reader<'_>) -> Result<List, Failure> {
+        let place = reader.place();
+        let parts = ListParts::read(alloc, reader)?;
+        let Pair(first, Pair(more, binders)) = parts;
+        Ok(List {
+            place,
+            first,
+            more,
+            binders,
+        })
     }
-    let lit = read_lit(alloc, reader)?;
-    Ok(Some(lit))
 }
 
-/// Reads a list.
-pub fn read_list(alloc: Global, reader: &mut Reader<'_>) -> Result<List, Failure>
-    ensures { Reads reader.old (g.list ∷ []) (λ l. listing_then (listing_of l)) reader.new result }
-{
-    let place = reader.place();
-    let first = read_expr(alloc, reader)?;
-    let more = read_more_exprs(alloc, reader)?;
-    let binders = read_for_each(alloc, reader)?;
-    Ok(List {
-        place,
-        first,
-        more,
-        binders,
-    })
-}
+/// A list in square brackets.
+pub type Table = Within<Square, List>;
 
-/// Reads a list in square brackets.
-pub fn read_table(alloc: Global, reader: &mut Reader<'_>) -> Result<List, Failure>
-    ensures { Reads reader.old (g.token_open_square ∷ g.list ∷ g.token_close_square ∷ []) (λ l. listing_then (listing_of l)) reader.new result }
-{
-    reader.open(Terminal::OpenSquare)?;
-    let list = read_list(alloc, reader)?;
-    reader.close(Terminal::CloseSquare)?;
-    Ok(list)
-}
+/// The right side of a choice.
+type ChoiceParts = Pair<Expr, Pair<Mark<Colon>, Pair<Table, Option<Binders>>>>;
 
-/// Reads a choice.
-fn read_choice(alloc: Global, reader: &mut Reader<'_>) -> Result<Choice, Failure>
-    ensures { Reads reader.old (g.choice ∷ []) (λ x. choice_then (choice_of x)) reader.new result }
-{
-    let place = reader.place();
-    let picks = read_expr(alloc, reader)?;
-    reader.expect(Terminal::Colon)?;
-    let table = read_table(alloc, reader)?;
-    let binders = read_for_each(alloc, reader)?;
-    Ok(Choice {
-        place,
-        picks,
-        table,
-        binders,
-    })
-}
+impl Part for Choice {
+    ghost symbols = { g.choice ∷ [] };
 
-/// Reads the choices of a constraint.
-pub fn read_choices(alloc: Global, reader: &mut Reader<'_>) -> Result<Items<Choice>, Failure>
-    ensures { Reads reader.old (g.choices ∷ []) (λ xs. choices_then (map choice_of xs)) reader.new result }
-{
-    let mut choices = Items::new(alloc);
-    'choices: while reader.accept(Terminal::Semicolon) {
-        let choice = read_choice(alloc, reader)?;
-        choices.push(choice)?;
+    ghost steps = { λ x. choice_then (choice_of x) };
+
+    fn read(alloc: Global, reader: &mut Reader<'_>) -> Result<Choice, Failure> {
+        let place = reader.place();
+        let parts = ChoiceParts::read(alloc, reader)?;
+        let Pair(picks, Pair(_, Pair(Within(table, _), binders))) = parts;
+        Ok(Choice {
+            place,
+            picks,
+            table,
+            binders,
+        })
     }
-    Ok(choices)
 }
 
-/// Reads a task that takes a part of a capacity.
-fn read_ctask(alloc: Global, reader: &mut Reader<'_>) -> Result<Ctask, Failure>
-    ensures { Reads reader.old (g.ctask ∷ []) (λ t. ctask_then (ctask_of t)) reader.new result }
-{
-    let place = reader.place();
-    let start = read_expr(alloc, reader)?;
-    reader.expect(Terminal::Comma)?;
-    let duration = read_expr(alloc, reader)?;
-    reader.expect(Terminal::Comma)?;
-    let demand = read_expr(alloc, reader)?;
-    let presence = read_presence(alloc, reader)?;
-    let binders = read_for_each(alloc, reader)?;
-    Ok(Ctask {
-        place,
-        start,
-        duration,
-        demand,
-        presence,
-        binders,
-    })
-}
+impl Part for Items<Choice> {
+    ghost symbols = { g.choices ∷ [] };
 
-/// Reads the tasks that share a capacity.
-pub fn read_ctasks(alloc: Global, reader: &mut Reader<'_>) -> Result<Items<Ctask>, Failure>
-    ensures { Reads reader.old (g.ctasks ∷ []) (λ ts. ctasks_then (map ctask_of ts)) reader.new result }
-{
-    let mut tasks = Items::new(alloc);
-    'tasks: while reader.accept(Terminal::Semicolon) {
-        let task = read_ctask(alloc, reader)?;
-        tasks.push(task)?;
+    ghost steps = { λ xs. choices_then (map choice_of xs) };
+
+    fn read(alloc: Global, reader: &mut Reader<'_>) -> Result<Items<Choice>, Failure> {
+        let mut choices = Items::new(alloc);
+        'choices: while reader.accept(Terminal::Semicolon) {
+            let choice = Choice::read(alloc, reader)?;
+            choices.push(choice)?;
+        }
+        Ok(choices)
     }
-    Ok(tasks)
 }
 
-/// Reads a task that takes all there is.
-pub fn read_dtask(alloc: Global, reader: &mut Reader<'_>) -> Result<Dtask, Failure>
-    ensures { Reads reader.old (g.dtask ∷ []) (λ t. dtask_then (dtask_of t)) reader.new result }
-{
-    let place = reader.place();
-    let start = read_expr(alloc, reader)?;
-    reader.expect(Terminal::Comma)?;
-    let duration = read_expr(alloc, reader)?;
-    let presence = read_presence(alloc, reader)?;
-    let binders = read_for_each(alloc, reader)?;
-    Ok(Dtask {
-        place,
-        start,
-        duration,
-        presence,
-        binders,
-    })
-}
+/// The right side of a task that takes a part of a capacity.
+type CtaskParts = Pair<
+    Expr,
+    Pair<
+        Mark<Comma>,
+        Pair<Expr, Pair<Mark<Comma>, Pair<Expr, Pair<Option<Lit>, Option<Binders>>>>>,
+    >,
+>;
 
-/// Reads the further tasks, each of which takes all there is.
-pub fn read_more_dtasks(alloc: Global, reader: &mut Reader<'_>) -> Result<Items<Dtask>, Failure>
-    ensures { Reads reader.old (g.more_dtasks ∷ []) (λ ts. more_dtasks_then (map dtask_of ts)) reader.new result }
-{
-    let mut tasks = Items::new(alloc);
-    'tasks: while reader.accept(Terminal::Semicolon) {
-        let task = read_dtask(alloc, reader)?;
-        tasks.push(task)?;
+impl Part for Ctask {
+    ghost symbols = { g.ctask ∷ [] };
+
+    ghost steps = { λ x. ctask_then (ctask_of x) };
+
+    fn read(alloc: Global, reader: &mut Reader<'_>) -> Result<Ctask, Failure> {
+        let place = reader.place();
+        let parts = CtaskParts::read(alloc, reader)?;
+        let Pair(start, Pair(_, Pair(duration, Pair(_, Pair(demand, Pair(presence, binders)))))) =
+            parts;
+        Ok(Ctask {
+            place,
+            start,
+            duration,
+            demand,
+            presence,
+            binders,
+        })
     }
-    Ok(tasks)
 }
 
-/// Reads an item of a packing.
-fn read_load(alloc: Global, reader: &mut Reader<'_>) -> Result<Load, Failure>
-    ensures { Reads reader.old (g.load ∷ []) (λ l. load_then (load_of l)) reader.new result }
-{
-    let place = reader.place();
-    let group = read_expr(alloc, reader)?;
-    reader.expect(Terminal::Comma)?;
-    let size = read_expr(alloc, reader)?;
-    reader.expect(Terminal::Comma)?;
-    let costs = read_table(alloc, reader)?;
-    let binders = read_for_each(alloc, reader)?;
-    Ok(Load {
-        place,
-        group,
-        size,
-        costs,
-        binders,
-    })
-}
+impl Part for Items<Ctask> {
+    ghost symbols = { g.ctasks ∷ [] };
 
-/// Reads the items of a packing.
-pub fn read_loads(alloc: Global, reader: &mut Reader<'_>) -> Result<Items<Load>, Failure>
-    ensures { Reads reader.old (g.loads ∷ []) (λ ls. loads_then (map load_of ls)) reader.new result }
-{
-    let mut loads = Items::new(alloc);
-    'loads: while reader.accept(Terminal::Semicolon) {
-        let load = read_load(alloc, reader)?;
-        loads.push(load)?;
+    ghost steps = { λ xs. ctasks_then (map ctask_of xs) };
+
+    fn read(alloc: Global, reader: &mut Reader<'_>) -> Result<Items<Ctask>, Failure> {
+        let mut tasks = Items::new(alloc);
+        'tasks: while reader.accept(Terminal::Semicolon) {
+            let task = Ctask::read(alloc, reader)?;
+            tasks.push(task)?;
+        }
+        Ok(tasks)
     }
-    Ok(loads)
+}
+
+/// The right side of a task that takes all there is.
+type DtaskParts = Pair<Expr, Pair<Mark<Comma>, Pair<Expr, Pair<Option<Lit>, Option<Binders>>>>>;
+
+impl Part for Dtask {
+    ghost symbols = { g.dtask ∷ [] };
+
+    ghost steps = { λ x. dtask_then (dtask_of x) };
+
+    fn read(alloc: Global, reader: &mut Reader<'_>) -> Result<Dtask, Failure> {
+        let place = reader.place();
+        let parts = DtaskParts::read(alloc, reader)?;
+        let Pair(start, Pair(_, Pair(duration, Pair(presence, binders)))) = parts;
+        Ok(Dtask {
+            place,
+            start,
+            duration,
+            presence,
+            binders,
+        })
+    }
+}
+
+impl Part for Items<Dtask> {
+    ghost symbols = { g.more_dtasks ∷ [] };
+
+    ghost steps = { λ xs. more_dtasks_then (map dtask_of xs) };
+
+    fn read(alloc: Global, reader: &mut Reader<'_>) -> Result<Items<Dtask>, Failure> {
+        let mut tasks = Items::new(alloc);
+        'tasks: while reader.accept(Terminal::Semicolon) {
+            let task = Dtask::read(alloc, reader)?;
+            tasks.push(task)?;
+        }
+        Ok(tasks)
+    }
+}
+
+/// The right side of an item of a packing.
+type LoadParts = Pair<
+    Expr,
+    Pair<Mark<Comma>, Pair<Expr, Pair<Mark<Comma>, Pair<Table, Option<Binders>>>>>,
+>;
+
+impl Part for Load {
+    ghost symbols = { g.load ∷ [] };
+
+    ghost steps = { λ x. load_then (load_of x) };
+
+    fn read(alloc: Global, reader: &mut Reader<'_>) -> Result<Load, Failure> {
+        let place = reader.place();
+        let parts = LoadParts::read(alloc, reader)?;
+        let Pair(group, Pair(_, Pair(size, Pair(_, Pair(Within(costs, _), binders))))) = parts;
+        Ok(Load {
+            place,
+            group,
+            size,
+            costs,
+            binders,
+        })
+    }
+}
+
+impl Part for Items<Load> {
+    ghost symbols = { g.loads ∷ [] };
+
+    ghost steps = { λ xs. loads_then (map load_of xs) };
+
+    fn read(alloc: Global, reader: &mut Reader<'_>) -> Result<Items<Load>, Failure> {
+        let mut loads = Items::new(alloc);
+        'loads: while reader.accept(Terminal::Semicolon) {
+            let load = Load::read(alloc, reader)?;
+            loads.push(load)?;
+        }
+        Ok(loads)
+    }
 }

@@ -7,17 +7,21 @@ ghost use Rattle.sm_syntax.specs.Trees.{values_of, kind_of, aim_of, goal_of, ite
 ghost use Rattle.sm_syntax.specs.Steps.{list_then, name_then, values_then, kind_then, family_then, forall_then, item_then, items_then, aim_then, goal_then, tree_then};
 ghost use Rattle.sm_syntax.specs.Symbols.{begins_item};
 
-use crate::expression::Binders;
+use crate::expression::{Binders, Expr};
 use crate::failure::Failure;
-use crate::read_constraint::read_cons;
-use crate::read_expression::{read_binders, read_expr};
-use crate::read_list::read_more_exprs;
-use crate::read_tag::read_tags;
+use crate::part::{Mark, Pair, Part, Within, read_behind};
 use crate::reader::Reader;
+use crate::sign::{Brace, Colon, Equal, Semicolon, Square, To};
 use crate::terminal::Terminal;
-use crate::tree::{Aim, Goal, Item, Kind, Name, Tree, Values};
+use crate::tree::{Aim, Cons, Goal, Item, Kind, Name, Tag, Tree, Values};
 use sqlite_items::Items;
 use std::alloc::Global;
+
+/// What stands behind the word of an index set.
+type IndexParts = Pair<
+    Name,
+    Pair<Mark<Equal>, Pair<Expr, Pair<Mark<To>, Pair<Expr, Mark<Semicolon>>>>>,
+>;
 
 /// Reads an index set.
 fn read_index(alloc: Global, reader: &mut Reader<'_>) -> Result<Item, Failure>
@@ -26,13 +30,8 @@ fn read_index(alloc: Global, reader: &mut Reader<'_>) -> Result<Item, Failure>
     ensures shorter { OnOk result (length reader.new.later < length reader.old.later) }
 {
     let place = reader.place();
-    reader.expect(Terminal::Index)?;
-    let name = reader.name(alloc)?;
-    reader.expect(Terminal::Equal)?;
-    let least = read_expr(alloc, reader)?;
-    reader.expect(Terminal::To)?;
-    let greatest = read_expr(alloc, reader)?;
-    reader.expect(Terminal::Semicolon)?;
+    let parts = read_behind::<IndexParts>(alloc, reader, Terminal::Index)?;
+    let Pair(name, Pair(_, Pair(least, Pair(_, Pair(greatest, _))))) = parts;
     Ok(Item::Index {
         place,
         name,
@@ -41,65 +40,82 @@ fn read_index(alloc: Global, reader: &mut Reader<'_>) -> Result<Item, Failure>
     })
 }
 
-/// Reads the further index sets of a family.
-fn read_more_sets(alloc: Global, reader: &mut Reader<'_>) -> Result<Items<Name>, Failure>
-    ensures { Reads reader.old (g.more_sets ∷ []) (list_then g.more_sets (g.token_comma ∷ g.token_name ∷ g.more_sets ∷ []) name_then) reader.new result }
-{
-    let mut sets = Items::new(alloc);
-    'sets: while reader.accept(Terminal::Comma) {
-        let set = reader.name(alloc)?;
-        sets.push(set)?;
+impl Part for Items<Name> {
+    ghost symbols = { g.more_sets ∷ [] };
+
+    ghost steps = { list_then g.more_sets (g.token_comma ∷ g.token_name ∷ g.more_sets ∷ []) name_then };
+
+    fn read(alloc: Global, reader: &mut Reader<'_>) -> Result<Items<Name>, Failure> {
+        let mut sets = Items::new(alloc);
+        'sets: while reader.accept(Terminal::Comma) {
+            let set = reader.name(alloc)?;
+            sets.push(set)?;
+        }
+        Ok(sets)
     }
-    Ok(sets)
 }
 
-/// Reads the index sets that variables may have.
-fn read_family(alloc: Global, reader: &mut Reader<'_>) -> Result<Items<Name>, Failure>
-    ensures { Reads reader.old (g.family ∷ []) family_then reader.new result }
-{
-    if !reader.is(Terminal::OpenSquare) {
-        return Ok(Items::new(alloc));
+/// The index sets that variables may have.
+#[derive(Drop)]
+struct Family(Items<Name>);
+
+/// The index sets that variables have, where they have some.
+type FamilyParts = Within<Square, Pair<Name, Items<Name>>>;
+
+impl Part for Family {
+    ghost symbols = { g.family ∷ [] };
+
+    ghost steps = { λ f. family_then f.0 };
+
+    fn read(alloc: Global, reader: &mut Reader<'_>) -> Result<Family, Failure> {
+        let mut sets = Items::new(alloc);
+        if !reader.is(Terminal::OpenSquare) {
+            return Ok(Family(sets));
+        }
+        let parts = FamilyParts::read(alloc, reader)?;
+        let Within(Pair(first, more), _) = parts;
+        sets.push(first)?;
+        sets.append(more)?;
+        Ok(Family(sets))
     }
-    reader.open(Terminal::OpenSquare)?;
-    let first = reader.name(alloc)?;
-    let more = read_more_sets(alloc, reader)?;
-    reader.close(Terminal::CloseSquare)?;
-    let mut sets = Items::new(alloc);
-    sets.push(first)?;
-    sets.append(more)?;
-    Ok(sets)
 }
+
+/// Two ends.
+type Range = Pair<Expr, Pair<Mark<To>, Expr>>;
 
 /// Reads the values between two ends.
 fn read_range(alloc: Global, reader: &mut Reader<'_>) -> Result<Values, Failure>
     requires { Chooses reader.old g.values (g.expr ∷ g.token_to ∷ g.expr ∷ []) }
     ensures { Reads reader.old (g.values ∷ []) (λ vs. values_then (values_of vs)) reader.new result }
 {
-    let least = read_expr(alloc, reader)?;
-    reader.expect(Terminal::To)?;
-    let greatest = read_expr(alloc, reader)?;
+    let parts = Range::read(alloc, reader)?;
+    let Pair(least, Pair(_, greatest)) = parts;
     Ok(Values::Range { least, greatest })
 }
+
+/// A list of values.
+type ValueList = Within<Brace, Pair<Expr, Items<Expr>>>;
 
 /// Reads the values of a list.
 fn read_value_list(alloc: Global, reader: &mut Reader<'_>) -> Result<Values, Failure>
     requires { Chooses reader.old g.values (g.token_open_brace ∷ g.expr ∷ g.more_exprs ∷ g.token_close_brace ∷ []) }
     ensures { Reads reader.old (g.values ∷ []) (λ vs. values_then (values_of vs)) reader.new result }
 {
-    reader.open(Terminal::OpenBrace)?;
-    let first = read_expr(alloc, reader)?;
-    let more = read_more_exprs(alloc, reader)?;
-    reader.close(Terminal::CloseBrace)?;
+    let parts = ValueList::read(alloc, reader)?;
+    let Within(Pair(first, more), _) = parts;
     Ok(Values::List { first, more })
 }
 
-/// Reads the values of a domain.
-fn read_values(alloc: Global, reader: &mut Reader<'_>) -> Result<Values, Failure>
-    ensures { Reads reader.old (g.values ∷ []) (λ vs. values_then (values_of vs)) reader.new result }
-{
-    match reader.terminal() {
-        Terminal::OpenBrace => read_value_list(alloc, reader),
-        _ => read_range(alloc, reader),
+impl Part for Values {
+    ghost symbols = { g.values ∷ [] };
+
+    ghost steps = { λ vs. values_then (values_of vs) };
+
+    fn read(alloc: Global, reader: &mut Reader<'_>) -> Result<Values, Failure> {
+        match reader.terminal() {
+            Terminal::OpenBrace => read_value_list(alloc, reader),
+            _ => read_range(alloc, reader),
+        }
     }
 }
 
@@ -109,8 +125,7 @@ fn read_set_kind(alloc: Global, reader: &mut Reader<'_>) -> Result<Kind, Failure
     ensures { Reads reader.old (g.kind ∷ []) (λ k. kind_then (kind_of k)) reader.new result }
 {
     let place = reader.place();
-    reader.expect(Terminal::Set)?;
-    let values = read_values(alloc, reader)?;
+    let values = read_behind::<Values>(alloc, reader, Terminal::Set)?;
     Ok(Kind::Set { place, values })
 }
 
@@ -120,10 +135,8 @@ fn read_int_kind(alloc: Global, reader: &mut Reader<'_>) -> Result<Kind, Failure
     ensures { Reads reader.old (g.kind ∷ []) (λ k. kind_then (kind_of k)) reader.new result }
 {
     let place = reader.place();
-    reader.expect(Terminal::Int)?;
-    let least = read_expr(alloc, reader)?;
-    reader.expect(Terminal::To)?;
-    let greatest = read_expr(alloc, reader)?;
+    let parts = read_behind::<Range>(alloc, reader, Terminal::Int)?;
+    let Pair(least, Pair(_, greatest)) = parts;
     Ok(Kind::Int {
         place,
         least,
@@ -137,10 +150,8 @@ fn read_real_kind(alloc: Global, reader: &mut Reader<'_>) -> Result<Kind, Failur
     ensures { Reads reader.old (g.kind ∷ []) (λ k. kind_then (kind_of k)) reader.new result }
 {
     let place = reader.place();
-    reader.expect(Terminal::Real)?;
-    let least = read_expr(alloc, reader)?;
-    reader.expect(Terminal::To)?;
-    let greatest = read_expr(alloc, reader)?;
+    let parts = read_behind::<Range>(alloc, reader, Terminal::Real)?;
+    let Pair(least, Pair(_, greatest)) = parts;
     Ok(Kind::Real {
         place,
         least,
@@ -148,16 +159,22 @@ fn read_real_kind(alloc: Global, reader: &mut Reader<'_>) -> Result<Kind, Failur
     })
 }
 
-/// Reads the kind of variables.
-fn read_kind(alloc: Global, reader: &mut Reader<'_>) -> Result<Kind, Failure>
-    ensures { Reads reader.old (g.kind ∷ []) (λ k. kind_then (kind_of k)) reader.new result }
-{
-    match reader.terminal() {
-        Terminal::Int => read_int_kind(alloc, reader),
-        Terminal::Real => read_real_kind(alloc, reader),
-        _ => read_set_kind(alloc, reader),
+impl Part for Kind {
+    ghost symbols = { g.kind ∷ [] };
+
+    ghost steps = { λ k. kind_then (kind_of k) };
+
+    fn read(alloc: Global, reader: &mut Reader<'_>) -> Result<Kind, Failure> {
+        match reader.terminal() {
+            Terminal::Int => read_int_kind(alloc, reader),
+            Terminal::Real => read_real_kind(alloc, reader),
+            _ => read_set_kind(alloc, reader),
+        }
     }
 }
+
+/// What stands behind the word of variables.
+type VarParts = Pair<Name, Pair<Family, Pair<Mark<Colon>, Pair<Kind, Mark<Semicolon>>>>>;
 
 /// Reads variables.
 fn read_var(alloc: Global, reader: &mut Reader<'_>) -> Result<Item, Failure>
@@ -166,12 +183,8 @@ fn read_var(alloc: Global, reader: &mut Reader<'_>) -> Result<Item, Failure>
     ensures shorter { OnOk result (length reader.new.later < length reader.old.later) }
 {
     let place = reader.place();
-    reader.expect(Terminal::Var)?;
-    let name = reader.name(alloc)?;
-    let sets = read_family(alloc, reader)?;
-    reader.expect(Terminal::Colon)?;
-    let kind = read_kind(alloc, reader)?;
-    reader.expect(Terminal::Semicolon)?;
+    let parts = read_behind::<VarParts>(alloc, reader, Terminal::Var)?;
+    let Pair(name, Pair(Family(sets), Pair(_, Pair(kind, _)))) = parts;
     Ok(Item::Var {
         place,
         name,
@@ -180,17 +193,27 @@ fn read_var(alloc: Global, reader: &mut Reader<'_>) -> Result<Item, Failure>
     })
 }
 
-/// Reads the binders that a constraint may have.
-fn read_forall(alloc: Global, reader: &mut Reader<'_>) -> Result<Option<Binders>, Failure>
-    ensures { Reads reader.old (g.forall ∷ []) (λ b. forall_then (option_map binding_of b)) reader.new result }
-{
-    if !reader.accept(Terminal::Forall) {
-        return Ok(None);
+/// The binders that a constraint may have.
+#[derive(Drop)]
+struct Forall(Option<Binders>);
+
+impl Part for Forall {
+    ghost symbols = { g.forall ∷ [] };
+
+    ghost steps = { λ f. forall_then (option_map binding_of f.0) };
+
+    fn read(alloc: Global, reader: &mut Reader<'_>) -> Result<Forall, Failure> {
+        if !reader.accept(Terminal::Forall) {
+            return Ok(Forall(None));
+        }
+        let parts = Pair::<Binders, Mark<Colon>>::read(alloc, reader)?;
+        let Pair(binders, _) = parts;
+        Ok(Forall(Some(binders)))
     }
-    let binders = read_binders(alloc, reader)?;
-    reader.expect(Terminal::Colon)?;
-    Ok(Some(binders))
 }
+
+/// What stands behind the word of a constraint.
+type PostParts = Pair<Forall, Pair<Cons, Pair<Items<Tag>, Mark<Semicolon>>>>;
 
 /// Reads a constraint with its binders and tags.
 fn read_post(alloc: Global, reader: &mut Reader<'_>) -> Result<Item, Failure>
@@ -199,11 +222,8 @@ fn read_post(alloc: Global, reader: &mut Reader<'_>) -> Result<Item, Failure>
     ensures shorter { OnOk result (length reader.new.later < length reader.old.later) }
 {
     let place = reader.place();
-    reader.expect(Terminal::Post)?;
-    let forall = read_forall(alloc, reader)?;
-    let cons = read_cons(alloc, reader)?;
-    let tags = read_tags(alloc, reader)?;
-    reader.expect(Terminal::Semicolon)?;
+    let parts = read_behind::<PostParts>(alloc, reader, Terminal::Post)?;
+    let Pair(Forall(forall), Pair(cons, Pair(tags, _))) = parts;
     Ok(Item::Post {
         place,
         forall,
@@ -234,16 +254,19 @@ fn begins_item(terminal: Terminal) -> bool
     }
 }
 
-/// Reads the items of a model.
-fn read_items(alloc: Global, reader: &mut Reader<'_>) -> Result<Items<Item>, Failure>
-    ensures { Reads reader.old (g.items ∷ []) (λ xs. items_then (map item_of xs)) reader.new result }
-{
-    let mut items = Items::new(alloc);
-    'items: while begins_item(reader.terminal()) {
-        let item = read_item(alloc, reader)?;
-        items.push(item)?;
+impl Part for Items<Item> {
+    ghost symbols = { g.items ∷ [] };
+
+    ghost steps = { λ xs. items_then (map item_of xs) };
+
+    fn read(alloc: Global, reader: &mut Reader<'_>) -> Result<Items<Item>, Failure> {
+        let mut items = Items::new(alloc);
+        'items: while begins_item(reader.terminal()) {
+            let item = read_item(alloc, reader)?;
+            items.push(item)?;
+        }
+        Ok(items)
     }
-    Ok(items)
 }
 
 /// Reads an aim to make an expression as great as it can be.
@@ -252,8 +275,7 @@ fn read_maximise(alloc: Global, reader: &mut Reader<'_>) -> Result<Aim, Failure>
     ensures { Reads reader.old (g.aim ∷ []) (λ a. aim_then (aim_of a)) reader.new result }
 {
     let place = reader.place();
-    reader.expect(Terminal::Maximise)?;
-    let expr = read_expr(alloc, reader)?;
+    let expr = read_behind::<Expr>(alloc, reader, Terminal::Maximise)?;
     Ok(Aim::Maximise { place, expr })
 }
 
@@ -263,8 +285,7 @@ fn read_minimise(alloc: Global, reader: &mut Reader<'_>) -> Result<Aim, Failure>
     ensures { Reads reader.old (g.aim ∷ []) (λ a. aim_then (aim_of a)) reader.new result }
 {
     let place = reader.place();
-    reader.expect(Terminal::Minimise)?;
-    let expr = read_expr(alloc, reader)?;
+    let expr = read_behind::<Expr>(alloc, reader, Terminal::Minimise)?;
     Ok(Aim::Minimise { place, expr })
 }
 
@@ -289,42 +310,51 @@ fn read_satisfy(reader: &mut Reader<'_>) -> Result<Goal, Failure>
 }
 
 /// Reads an aim as a goal.
-fn read_aimed(alloc: Global, reader: &mut Reader<'_>) -> Result<Goal, Failure>
+fn read_aims(alloc: Global, reader: &mut Reader<'_>) -> Result<Goal, Failure>
     requires { Chooses reader.old g.goal (g.aim ∷ []) }
     ensures { Reads reader.old (g.goal ∷ []) (λ x. goal_then (goal_of x)) reader.new result }
 {
     let place = reader.place();
-    let aim = read_aim(alloc, reader)?;
-    Ok(Goal::Aim { place, aim })
+    let first = read_aim(alloc, reader)?;
+    let more = Items::new(alloc);
+    Ok(Goal::Aims { place, first, more })
 }
 
-/// Reads a goal.
-fn read_goal(alloc: Global, reader: &mut Reader<'_>) -> Result<Goal, Failure>
-    ensures { Reads reader.old (g.goal ∷ []) (λ x. goal_then (goal_of x)) reader.new result }
-{
-    match reader.terminal() {
-        Terminal::Minimise => read_aimed(alloc, reader),
-        Terminal::Maximise => read_aimed(alloc, reader),
-        _ => read_satisfy(reader),
+impl Part for Goal {
+    ghost symbols = { g.goal ∷ [] };
+
+    ghost steps = { λ x. goal_then (goal_of x) };
+
+    fn read(alloc: Global, reader: &mut Reader<'_>) -> Result<Goal, Failure> {
+        match reader.terminal() {
+            Terminal::Minimise => read_aims(alloc, reader),
+            Terminal::Maximise => read_aims(alloc, reader),
+            _ => read_satisfy(reader),
+        }
     }
 }
 
-/// Reads a model.
-fn read_model(alloc: Global, reader: &mut Reader<'_>) -> Result<Tree, Failure>
-    ensures { Reads reader.old (g.model ∷ []) (λ t. tree_then (tree_of t)) reader.new result }
-{
-    let place = reader.place();
-    let items = read_items(alloc, reader)?;
-    let goal = read_goal(alloc, reader)?;
-    reader.expect(Terminal::Semicolon)?;
-    Ok(Tree { place, items, goal })
+/// The right side of a model.
+type TreeParts = Pair<Items<Item>, Pair<Goal, Mark<Semicolon>>>;
+
+impl Part for Tree {
+    ghost symbols = { g.model ∷ [] };
+
+    ghost steps = { λ t. tree_then (tree_of t) };
+
+    fn read(alloc: Global, reader: &mut Reader<'_>) -> Result<Tree, Failure> {
+        let place = reader.place();
+        let parts = TreeParts::read(alloc, reader)?;
+        let Pair(items, Pair(goal, _)) = parts;
+        Ok(Tree { place, items, goal })
+    }
 }
 
 /// Reads a model and the end of the text.
 pub fn read_text(alloc: Global, reader: &mut Reader<'_>) -> Result<Tree, Failure>
     ensures { ReadsAll reader.old (λ t. tree_then (tree_of t)) reader.new result }
 {
-    let tree = read_model(alloc, reader)?;
+    let tree = Tree::read(alloc, reader)?;
     if reader.is_at_end() {
         Ok(tree)
     } else {

@@ -6,8 +6,9 @@ ghost use Rattle.sm_syntax.specs.Trees.{tag_of};
 ghost use Rattle.sm_syntax.specs.Steps.{level_then, relaxing_then, picking_then, splitting_then, tag_then, tags_then};
 ghost use Rattle.sm_syntax.specs.Symbols.{level_of, relaxing_of, picking_of, splitting_of, begins_tag};
 
+use crate::expression::Expr;
 use crate::failure::Failure;
-use crate::read_expression::read_expr;
+use crate::part::Part;
 use crate::reader::Reader;
 use crate::terminal::Terminal;
 use crate::tree::{Level, Picking, Relaxing, Splitting, Tag};
@@ -177,7 +178,7 @@ fn read_sub(alloc: Global, reader: &mut Reader<'_>) -> Result<Tag, Failure>
 {
     let place = reader.place();
     reader.expect(Terminal::Sub)?;
-    let number = read_expr(alloc, reader)?;
+    let number = Expr::read(alloc, reader)?;
     Ok(Tag::Sub { place, number })
 }
 
@@ -207,14 +208,17 @@ fn begins_tag(terminal: Terminal) -> bool
     }
 }
 
-/// Reads the tags of a constraint.
-pub fn read_tags(alloc: Global, reader: &mut Reader<'_>) -> Result<Items<Tag>, Failure>
-    ensures { Reads reader.old (g.tags ∷ []) (λ ts. tags_then (map tag_of ts)) reader.new result }
-{
-    let mut tags = Items::new(alloc);
-    'tags: while begins_tag(reader.terminal()) {
-        let tag = read_tag(alloc, reader)?;
-        tags.push(tag)?;
+impl Part for Items<Tag> {
+    ghost symbols = { g.tags ∷ [] };
+
+    ghost steps = { λ ts. tags_then (map tag_of ts) };
+
+    fn read(alloc: Global, reader: &mut Reader<'_>) -> Result<Items<Tag>, Failure> {
+        let mut tags = Items::new(alloc);
+        'tags: while begins_tag(reader.terminal()) {
+            let tag = read_tag(alloc, reader)?;
+            tags.push(tag)?;
+        }
+        Ok(tags)
     }
-    Ok(tags)
 }

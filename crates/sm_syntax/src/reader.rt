@@ -9,6 +9,7 @@ ghost use Rattle.sm_syntax.specs.Steps.{name_then, number_then};
 ghost use Rattle.sm_syntax.specs.Grammar.{token_name, token_number};
 
 use crate::failure::Failure;
+use crate::part::Part;
 use crate::place::Place;
 use crate::terminal::Terminal;
 use crate::token::{Token, next_token};
@@ -215,5 +216,15 @@ impl<'a> Reader<'a> {
         let depth = self.depth();
         self.pass(depth);
         Ok(Number { place, value })
+    }
+}
+
+impl Part for Name {
+    ghost symbols = { token_name ∷ [] };
+
+    ghost steps = { name_then };
+
+    fn read(alloc: Global, reader: &mut Reader<'_>) -> Result<Name, Failure> {
+        reader.name(alloc)
     }
 }

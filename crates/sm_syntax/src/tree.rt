@@ -80,8 +80,15 @@ pub enum Values {
 /// What is wanted.
 #[derive(Drop)]
 pub enum Goal {
-    Satisfy { place: Place },
-    Aim { place: Place, aim: Aim },
+    Satisfy {
+        place: Place,
+    },
+    /// Aims in the order of their rank.
+    Aims {
+        place: Place,
+        first: Aim,
+        more: Items<Aim>,
+    },
 }
 
 /// What is to become as small or as great as it can.

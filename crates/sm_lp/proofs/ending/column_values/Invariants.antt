@@ -1,9 +1,10 @@
 use Rattle.std.proofs.Common.{◌≡◌, ℕ, ◌<◌, vec_len}
 use Rattle.sm_frac.specs.declared.operation.Op.TheVariants.{Plus}
-use Rattle.sm_lp.specs.Numbers.{number_at}
-use Rattle.sm_lp.specs.Program.{column_count, low}
+use Rattle.sm_certificate.specs.Numbers.{number_at}
+use Rattle.sm_certificate.specs.Program.{column_count, low}
 use Rattle.sm_lp.specs.Steps.{column_value, constant_of}
-use Rattle.sm_lp.specs.Table.{dictionary_of, IsFine}
+use Rattle.sm_lp.specs.Table.{dictionary_of}
+use Rattle.sm_certificate.specs.Fine.{IsFine}
 use Rattle.sm_lp.proofs.ending.column_values.Given as goal
 
 abbrev pub invariant-loop-j : goal.invariant-loop-j

@@ -3,7 +3,7 @@ use Rattle.std.specs.Prelude.{◌≤ℤ◌}
 use Rattle.sm_frac.specs.Rational.{ℚ}
 use Rattle.sm_frac.specs.declared.operation.Op.TheVariants.{Lcm}
 use Rattle.sm_lp.specs.Steps.{IsLeastCommon, JoinsBy}
-use Rattle.sm_lp.specs.Table.{IsFine}
+use Rattle.sm_certificate.specs.Fine.{IsFine}
 use Rattle.sm_lp.specs.Ending.{denominator_at}
 use Rattle.sm_lp.proofs.ending.common_denominator.Given as goal
 

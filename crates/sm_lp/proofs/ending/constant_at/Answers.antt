@@ -2,7 +2,7 @@ use Rattle.std.proofs.Common.{sym, ap, ◌∙◌, arith, ◌≡◌, List, length
 use Rattle.std.specs.Prelude.{slice_index_or}
 use Rattle.sm_lp.specs.Rule.{place}
 use Rattle.sm_lp.specs.Table.{dictionary_of}
-use Rattle.sm_lp.proofs.FineLemmas.{value_of_zero}
+use Rattle.sm_certificate.proofs.FineLemmas.{value_of_zero}
 use Rattle.sm_lp.proofs.EndingLemmas.{constant_found, constant_missing}
 use Rattle.sm_lp.proofs.ending.constant_at.Goals as goal
 

@@ -4,7 +4,7 @@ use Rattle.std.proofs.lemmas.Int.{ints}
 use Rattle.sm_frac.specs.Rational.{zero_ℚ}
 use Rattle.sm_frac.specs.Frac.{value_of}
 use Rattle.sm_frac.proofs.OperationLemmas.{zero_of}
-use Rattle.sm_lp.proofs.FineLemmas.{value_of_zero}
+use Rattle.sm_certificate.proofs.FineLemmas.{value_of_zero}
 use Rattle.sm_lp.proofs.EndingLemmas.{first_zero, second_zero}
 use Rattle.sm_lp.proofs.ending.equal_multiplier.Goals as goal
 

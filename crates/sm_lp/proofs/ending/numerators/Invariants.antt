@@ -1,6 +1,6 @@
 use Rattle.std.proofs.Common.{◌≡◌, ℕ, ◌<◌, length}
-use Rattle.sm_lp.specs.Numbers.{number_at}
-use Rattle.sm_lp.specs.Program.{point_value}
+use Rattle.sm_certificate.specs.Numbers.{number_at}
+use Rattle.sm_certificate.specs.Program.{point_value}
 use Rattle.sm_lp.proofs.ending.numerators.Given as goal
 
 abbrev pub invariant-loop-value : goal.invariant-loop-value

@@ -2,7 +2,7 @@ use Rattle.std.proofs.Common.{◌∙◌, sym, arith, List, subst, None, map, SFi
 use Rattle.std.proofs.lemmas.Int.{ints, to_z-of_z}
 use Rattle.sm_frac.specs.Frac.{value_of}
 use Rattle.sm_frac.specs.declared.fraction.Frac.{Frac}
-use Rattle.sm_lp.specs.declared.program.LpRow.{LpRow}
+use Rattle.sm_certificate.specs.declared.program.LpRow.{LpRow}
 use Rattle.sm_lp.specs.Table.{dictionary_of}
 use Rattle.sm_lp.specs.Ending.{slack_of, AreApart, AreBoxed, IsCommon, IsCommonPassed}
 use Rattle.sm_lp.proofs.SolveLemmas.{path_tracked}
@@ -38,7 +38,7 @@ row_multipliers-requires-clause-apart c =
     let p = c.args.program.now in
     let t = c.args.table.now in
     let d = dictionary_of t in
-    subst (λ (rows : List LpRow). AreApart rows (slack_of t.constant t.goal d None) t.constant) (sym c.deref-in-Ok-common_denominator-2.ensures.value) (goal_halves_apart p d t.constant t.goal c.requires.constant c.requires.goal (path_tracked p d c.requires.path))
+    subst (λ (rows : List LpRow). AreApart rows (slack_of t.constant t.goal d None) t.constant) (sym c.as_slice.ensures) (goal_halves_apart p d t.constant t.goal c.requires.constant c.requires.goal (path_tracked p d c.requires.path))
 
 pub returns-in-Ok-common_denominator-clause-path :
     goal.returns-in-Ok-common_denominator-clause-path
@@ -54,7 +54,7 @@ returns-in-Ok-common_denominator-clause-path c =
     let high = common.most in
     let fits : SFits w64 e = omega (arith, ints) in
     let basis = path_basis p d c.deref.result.now c.basic.result t.goal c.in_ok-basis.basis.items c.requires.path (same_reads c.deref.result.now t.basic.items c.deref.ensures.value) c.requires.goal (c.deref.ensures.len ∙ t.rows) c.basic.ensures c.in_ok-basis.ensures in
-    let ms = goal_multipliers p d t.constant t.goal c.deref-in-Ok-common_denominator-2.result.now (map value_of c.in_ok-multipliers-in-Ok-common_denominator.multipliers.items) c.requires.constant c.requires.goal c.deref-in-Ok-common_denominator-2.ensures.value c.in_ok-multipliers-in-Ok-common_denominator.ensures in
+    let ms = goal_multipliers p d t.constant t.goal c.as_slice.result.now (map value_of c.in_ok-multipliers-in-Ok-common_denominator.multipliers.items) c.requires.constant c.requires.goal c.as_slice.ensures c.in_ok-multipliers-in-Ok-common_denominator.ensures in
     let exact = values_exact p d v c.deref-in-Ok-common_denominator.result.now c.in_ok-point-in-Ok-common_denominator.point.items e c.deref-in-Ok-common_denominator.ensures.value c.in-Ok.ensures.values (simp to_z-of_z at c.in_ok-point-in-Ok-common_denominator.ensures.exact) in
     (d, c.requires.path, o, basis, ms, simp to_z-of_z exact)
 
@@ -71,7 +71,7 @@ returns-in-Ok-common_denominator-clause-right c =
     let low = common.least in
     let high = common.most in
     let fits : SFits w64 e = omega (arith, ints) in
-    let ms = goal_multipliers p d t.constant t.goal c.deref-in-Ok-common_denominator-2.result.now (map value_of c.in_ok-multipliers-in-Ok-common_denominator.multipliers.items) c.requires.constant c.requires.goal c.deref-in-Ok-common_denominator-2.ensures.value c.in_ok-multipliers-in-Ok-common_denominator.ensures in
+    let ms = goal_multipliers p d t.constant t.goal c.as_slice.result.now (map value_of c.in_ok-multipliers-in-Ok-common_denominator.multipliers.items) c.requires.constant c.requires.goal c.as_slice.ensures c.in_ok-multipliers-in-Ok-common_denominator.ensures in
     let is = c.deref-in-Ok-common_denominator.ensures.value in
     let made = optimum_read p d v c.deref-in-Ok-common_denominator.result.now e c.in_ok-point-in-Ok-common_denominator.point.items (map value_of c.in_ok-multipliers-in-Ok-common_denominator.multipliers.items) c.requires.solvable (path_tracked p d c.requires.path) o c.in-Ok.ensures.values common is c.in_ok-point-in-Ok-common_denominator.ensures.long (simp to_z-of_z at c.in_ok-point-in-Ok-common_denominator.ensures.exact) ms in
     simp to_z-of_z made

@@ -1,7 +1,7 @@
 use Rattle.std.proofs.Common.{◌≡◌, ◌+◌, ◌++◌, length, drop}
 use Rattle.std.specs.Prelude.{map}
 use Rattle.sm_frac.specs.Frac.{value_of}
-use Rattle.sm_lp.specs.First.{halves}
+use Rattle.sm_certificate.specs.Slacks.{halves}
 use Rattle.sm_lp.specs.Answer.{row_multipliers}
 use Rattle.sm_lp.specs.Table.{dictionary_of}
 use Rattle.sm_lp.specs.Ending.{slack_of, AreApart}

@@ -3,7 +3,7 @@ use Rattle.sm_frac.specs.Rational.{one_ℚ, neg_ℚ, zero_ℚ}
 use Rattle.sm_frac.proofs.CommonDenominator.{whole_value}
 use Rattle.sm_lp.specs.Dictionary.{value_at}
 use Rattle.sm_lp.specs.Table.{dictionary_of}
-use Rattle.sm_lp.proofs.Points.{choose, choose_not}
+use Rattle.sm_certificate.proofs.Totals.{choose, choose_not}
 use Rattle.sm_lp.proofs.ending.turned_multiplier.Goals as goal
 
 pub returns-then-basic-slack : goal.returns-then-basic-slack

@@ -5,11 +5,11 @@ use mir.Val.{SFits}
 use mir.Syntax.{w128}
 use Rattle.sm_frac.specs.Rational.{whole_ℚ}
 use Rattle.sm_frac.specs.declared.fraction.Frac.{Frac}
-use Rattle.sm_lp.specs.Numbers.{number_at}
-use Rattle.sm_lp.specs.Program.{column_count}
-use Rattle.sm_lp.specs.First.{slack_count}
+use Rattle.sm_certificate.specs.Numbers.{number_at}
+use Rattle.sm_certificate.specs.Program.{column_count}
+use Rattle.sm_certificate.specs.Slacks.{slack_count}
 use Rattle.sm_lp.specs.Writing.{shift_total, IsRowWritten}
-use Rattle.sm_lp.proofs.FineLemmas.{value_of_zero}
+use Rattle.sm_certificate.proofs.FineLemmas.{value_of_zero}
 use Rattle.sm_lp.proofs.WritingLemmas.{cells_entries, cost_numbers, cost_shift, blank_zero, rows_zero}
 use Rattle.sm_lp.proofs.first.first_cells.Goals as goal
 
@@ -25,9 +25,9 @@ returns c =
     let long = ap (λ (xs : List Frac). length xs) same ∙ length-replicate c.args.sizes.area c.whole.result ∙ c.requires.sizes.area in
     let small = c.shift_of-shift.ensures.small in
     let f : SFits w128 c.shift_of-shift.result = omega (arith, ints) in
-    let sum = subst (λ (bs : List (ℤ × ℤ)). whole_ℚ c.shift_of-shift.result ≡ shift_total p.cost.items bs) c.deref-2.ensures.value (subst (λ (ns : List ℤ). whole_ℚ c.shift_of-shift.result ≡ shift_total ns c.deref-2.result.now) c.deref.ensures.value c.shift_of-shift.ensures.sum) in
+    let sum = subst (λ (bs : List (ℤ × ℤ)). whole_ℚ c.shift_of-shift.result ≡ shift_total p.cost bs) c.as_slice.ensures (subst (λ (ns : List ℤ). whole_ℚ c.shift_of-shift.result ≡ shift_total ns c.as_slice.result.now) c.as_slice-costs.ensures c.shift_of-shift.ensures.sum) in
     let start = c.args.sizes.slacks * (c.args.sizes.columns + 1) in
     let width : c.args.sizes.columns + 1 ≡ suc (column_count p) = let e = c.requires.sizes.columns in omega arith in
     let place : start ≡ slack_count p * suc (column_count p) = ap (λ (x : ℕ). c.args.sizes.slacks * x) width ∙ ap (λ (x : ℕ). x * suc (column_count p)) c.requires.sizes.slacks in
-    let row : IsRowWritten c.write_ends-cells.result.items c.write_row.result.items start p.cost.items c.shift_of-shift.result false = subst (λ (ns : List ℤ). IsRowWritten c.write_ends-cells.result.items c.write_row.result.items start ns c.shift_of-shift.result false) c.deref-3.ensures.value (simp to_z-of_z at c.write_row.ensures) in
-    cells_entries p c.in_ok-blank.blank.items c.in_ok-cells.cells.items c.write_ends-cells.result.items c.write_row.result.items p.cost.items c.shift_of-shift.result start place long c.requires.solvable.costs (λ j l. cost_numbers p j) (cost_shift p c.shift_of-shift.result sum) c.in_ok-cells.ensures c.write_ends-cells.ensures row
+    let row : IsRowWritten c.write_ends-cells.result.items c.write_row.result.items start p.cost c.shift_of-shift.result false = subst (λ (ns : List ℤ). IsRowWritten c.write_ends-cells.result.items c.write_row.result.items start ns c.shift_of-shift.result false) c.as_slice-costs.ensures (simp to_z-of_z at c.write_row.ensures) in
+    cells_entries p c.in_ok-blank.blank.items c.in_ok-cells.cells.items c.write_ends-cells.result.items c.write_row.result.items p.cost c.shift_of-shift.result start place long c.requires.solvable.costs (λ j l. cost_numbers p j) (cost_shift p c.shift_of-shift.result sum) c.in_ok-cells.ensures c.write_ends-cells.ensures row

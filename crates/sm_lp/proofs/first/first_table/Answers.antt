@@ -1,6 +1,7 @@
 use Rattle.std.proofs.Common.{arith, ◌≡◌, sym, subst, ℕ, suc, ◌+◌}
-use Rattle.sm_lp.specs.Program.{column_count}
-use Rattle.sm_lp.specs.First.{first, number_count}
+use Rattle.sm_certificate.specs.Program.{column_count}
+use Rattle.sm_lp.specs.First.{first}
+use Rattle.sm_certificate.specs.Slacks.{number_count}
 use Rattle.sm_lp.specs.Writing.{IsCounting}
 use Rattle.std.proofs.Common.{set, slice_index_or}
 use Rattle.sm_lp.specs.Table.{cell_entry}
@@ -11,8 +12,8 @@ use Rattle.sm_lp.proofs.first.first_table.Goals as goal
 pub returns-clause-first : goal.returns-clause-first
 returns-clause-first c =
     let p = c.args.program.now in
-    let z = c.in-Some.ensures in
-    let s = c.in-Some.sizes in
+    let z = c.sizes_of-sizes.ensures in
+    let s = c.sizes_of-sizes.result in
     let basic = subst (λ (x : ℕ). IsCounting c.in_ok-basic.basic.items (column_count p) x) z.numbers (subst (λ (x : ℕ). IsCounting c.in_ok-basic.basic.items x s.numbers) z.columns c.in_ok-basic.ensures) in
     let nonbasic = subst (λ (x : ℕ). IsCounting c.in_ok-nonbasic.nonbasic.items 0 x) z.columns c.in_ok-nonbasic.ensures in
     let made = first_dictionary p s.slacks s.columns c.in_ok-cells.cells.items c.in_ok-basic.basic.items c.in_ok-nonbasic.nonbasic.items z.slacks z.columns c.in_ok-cells.ensures basic nonbasic in

@@ -2,8 +2,8 @@ use Rattle.std.proofs.Common.{◌∙◌, sym, ap, List, refl, arith, ◌+◌}
 use Rattle.std.proofs.lemmas.Result.{err_from_is_err_and}
 use Rattle.std.proofs.lemmas.Int.{ints}
 use Rattle.sm_frac.specs.declared.fraction.Frac.{Frac}
-use Rattle.sm_lp.specs.Numbers.{number_at}
-use Rattle.sm_lp.proofs.FineLemmas.{value_of_zero}
+use Rattle.sm_certificate.specs.Numbers.{number_at}
+use Rattle.sm_certificate.proofs.FineLemmas.{value_of_zero}
 use Rattle.sm_lp.proofs.PivotSteps.{eliminated_none, eliminated_some, last_passed}
 use Rattle.sm_lp.proofs.pivot.eliminate_row.Goals as goal
 

@@ -1,6 +1,6 @@
 use Rattle.std.proofs.Common.{◌∙◌, sym, ap, ℕ}
 use Rattle.sm_frac.specs.Rational.{neg_ℚ}
-use Rattle.sm_lp.specs.Numbers.{number_at}
+use Rattle.sm_certificate.specs.Numbers.{number_at}
 use Rattle.sm_lp.proofs.pivot.own_entry.Goals as goal
 
 pub returns-then-j-column-clause-here : goal.returns-then-j-column-clause-here

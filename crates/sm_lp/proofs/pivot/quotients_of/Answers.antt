@@ -2,7 +2,7 @@ use Rattle.std.proofs.Common.{◌∙◌, sym, refl, arith, ◌<◌, length}
 use Rattle.std.proofs.lemmas.Result.{err_from_is_err_and}
 use Rattle.sm_frac.specs.declared.operation.Op.TheVariants.{Over}
 use Rattle.sm_lp.specs.Table.{dictionary_of}
-use Rattle.sm_lp.proofs.FineLemmas.{value_of_zero}
+use Rattle.sm_certificate.proofs.FineLemmas.{value_of_zero}
 use Rattle.sm_lp.proofs.PivotSteps.{quotient_more, quotient_passed}
 use Rattle.sm_lp.proofs.pivot.quotients_of.Goals as goal
 

@@ -1,8 +1,9 @@
 use Rattle.std.proofs.Common.{◌≡◌, ℕ, ◌<◌, suc, vec_len}
 use Rattle.sm_frac.specs.declared.operation.Op.TheVariants.{Over}
-use Rattle.sm_lp.specs.Numbers.{number_at}
+use Rattle.sm_certificate.specs.Numbers.{number_at}
 use Rattle.sm_lp.specs.Steps.{dividend, quotient}
-use Rattle.sm_lp.specs.Table.{dictionary_of, IsFine}
+use Rattle.sm_lp.specs.Table.{dictionary_of}
+use Rattle.sm_certificate.specs.Fine.{IsFine}
 use Rattle.sm_lp.proofs.pivot.quotients_of.Given as goal
 
 abbrev pub invariant-loop-j : goal.invariant-loop-j

@@ -3,8 +3,8 @@ use Rattle.std.proofs.lemmas.Result.{err_from_is_err_and}
 use Rattle.std.proofs.lemmas.Int.{ints}
 use Rattle.sm_frac.specs.declared.fraction.Frac.{Frac}
 use Rattle.sm_frac.specs.Frac.{value_of}
-use Rattle.sm_lp.specs.Numbers.{number_at}
-use Rattle.sm_lp.proofs.FineLemmas.{value_of_zero}
+use Rattle.sm_certificate.specs.Numbers.{number_at}
+use Rattle.sm_certificate.proofs.FineLemmas.{value_of_zero}
 use Rattle.sm_lp.proofs.PivotSteps.{subtracted_none, subtracted_some, product_passed, difference_passed}
 use Rattle.sm_lp.proofs.pivot.subtract_at.Goals as goal
 

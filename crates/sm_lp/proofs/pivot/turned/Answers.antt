@@ -2,7 +2,7 @@ use Rattle.std.proofs.Common.{◌∙◌, ap, refl}
 use Rattle.sm_frac.specs.Rational.{ℚ, ◌-ℚ◌, neg_ℚ}
 use Rattle.sm_frac.specs.Frac.{value_of}
 use Rattle.sm_frac.proofs.RationalRing.{zero-+ℚ}
-use Rattle.sm_lp.proofs.FineLemmas.{zero_minus_passes_not, value_of_zero}
+use Rattle.sm_certificate.proofs.FineLemmas.{zero_minus_passes_not, value_of_zero}
 use Rattle.sm_lp.proofs.pivot.turned.Goals as goal
 
 pub unreachable-requires : goal.unreachable-requires

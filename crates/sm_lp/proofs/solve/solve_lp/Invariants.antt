@@ -1,6 +1,6 @@
 use Rattle.std.proofs.Common.{◌≡◌, ◌^◌, suc, ◌<◌}
-use Rattle.sm_lp.specs.First.{slack_count, number_count}
-use Rattle.sm_lp.specs.Program.{column_count}
+use Rattle.sm_certificate.specs.Slacks.{slack_count, number_count}
+use Rattle.sm_certificate.specs.Program.{column_count}
 use Rattle.sm_lp.specs.Path.{successor, IsOnPath}
 use Rattle.sm_lp.specs.Table.{dictionary_of}
 use Rattle.sm_lp.proofs.Count.{steps_left}

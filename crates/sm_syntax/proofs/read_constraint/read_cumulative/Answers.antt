@@ -1,55 +1,12 @@
-use Rattle.std.proofs.Common.{refl, ◌∷◌, []}
+use Rattle.std.proofs.Common.{refl}
 use Rattle.std.proofs.lemmas.Result.{err_from_is_err_and}
-use Rattle.sm_syntax.specs.Grammar as g
-use Rattle.sm_syntax.proofs.Readings.{after, behind, fault_at, opened_rule}
+use Rattle.sm_syntax.proofs.Readings.{rule_reads, rule_fails}
 use Rattle.sm_syntax.proofs.read_constraint.read_cumulative.Goals as goal
 
-pub returns-in_err-expect : goal.returns-in_err-expect
-returns-in_err-expect c =
-    let l0 = opened_rule c.args.reader.now 11 (g.token_cumulative ∷ g.token_open_round ∷ g.expr ∷ g.ctasks ∷ g.token_close_round ∷ []) c.place-place.result refl c.place-place.ensures c.requires in
+pub returns-in_err-parts : goal.returns-in_err-parts
+returns-in_err-parts c =
     let p = err_from_is_err_and c.from_residual.result c.from_residual.ensures.1 in
-    rw (p.1, p.2) (fault_at c.expect.new.self c.in_err-expect.field-0.0 (g.token_cumulative ∷ []) (g.token_open_round ∷ g.expr ∷ g.ctasks ∷ g.token_close_round ∷ []) l0 c.in_err-expect.ensures.read)
-
-pub returns-in_err-open : goal.returns-in_err-open
-returns-in_err-open c =
-    let l0 = opened_rule c.args.reader.now 11 (g.token_cumulative ∷ g.token_open_round ∷ g.expr ∷ g.ctasks ∷ g.token_close_round ∷ []) c.place-place.result refl c.place-place.ensures c.requires in
-    let l1 = after l0 (behind (g.token_open_round ∷ g.expr ∷ g.ctasks ∷ g.token_close_round ∷ []) c.in_ok-expect.ensures.read) in
-    let p = err_from_is_err_and c.from_residual-in_err-open.result c.from_residual-in_err-open.ensures.1 in
-    rw (p.1, p.2) (fault_at c.open.new.self c.in_err-open.field-0.0 (g.token_open_round ∷ []) (g.expr ∷ g.ctasks ∷ g.token_close_round ∷ []) l1 c.in_err-open.ensures.read)
-
-pub returns-in_err-capacity : goal.returns-in_err-capacity
-returns-in_err-capacity c =
-    let l0 = opened_rule c.args.reader.now 11 (g.token_cumulative ∷ g.token_open_round ∷ g.expr ∷ g.ctasks ∷ g.token_close_round ∷ []) c.place-place.result refl c.place-place.ensures c.requires in
-    let l1 = after l0 (behind (g.token_open_round ∷ g.expr ∷ g.ctasks ∷ g.token_close_round ∷ []) c.in_ok-expect.ensures.read) in
-    let l2 = after l1 (behind (g.expr ∷ g.ctasks ∷ g.token_close_round ∷ []) c.in_ok-open.ensures.read) in
-    let p = err_from_is_err_and c.from_residual-in_err-capacity.result c.from_residual-in_err-capacity.ensures.1 in
-    rw (p.1, p.2) (fault_at c.read_expr.new.reader c.in_err-capacity.field-0.0 (g.expr ∷ []) (g.ctasks ∷ g.token_close_round ∷ []) l2 c.in_err-capacity.ensures)
-
-pub returns-in_err-tasks : goal.returns-in_err-tasks
-returns-in_err-tasks c =
-    let l0 = opened_rule c.args.reader.now 11 (g.token_cumulative ∷ g.token_open_round ∷ g.expr ∷ g.ctasks ∷ g.token_close_round ∷ []) c.place-place.result refl c.place-place.ensures c.requires in
-    let l1 = after l0 (behind (g.token_open_round ∷ g.expr ∷ g.ctasks ∷ g.token_close_round ∷ []) c.in_ok-expect.ensures.read) in
-    let l2 = after l1 (behind (g.expr ∷ g.ctasks ∷ g.token_close_round ∷ []) c.in_ok-open.ensures.read) in
-    let l3 = after l2 (behind (g.ctasks ∷ g.token_close_round ∷ []) c.in_ok-capacity.ensures) in
-    let p = err_from_is_err_and c.from_residual-in_err-tasks.result c.from_residual-in_err-tasks.ensures.1 in
-    rw (p.1, p.2) (fault_at c.read_ctasks.new.reader c.in_err-tasks.field-0.0 (g.ctasks ∷ []) (g.token_close_round ∷ []) l3 c.in_err-tasks.ensures)
-
-pub returns-in_err-close : goal.returns-in_err-close
-returns-in_err-close c =
-    let l0 = opened_rule c.args.reader.now 11 (g.token_cumulative ∷ g.token_open_round ∷ g.expr ∷ g.ctasks ∷ g.token_close_round ∷ []) c.place-place.result refl c.place-place.ensures c.requires in
-    let l1 = after l0 (behind (g.token_open_round ∷ g.expr ∷ g.ctasks ∷ g.token_close_round ∷ []) c.in_ok-expect.ensures.read) in
-    let l2 = after l1 (behind (g.expr ∷ g.ctasks ∷ g.token_close_round ∷ []) c.in_ok-open.ensures.read) in
-    let l3 = after l2 (behind (g.ctasks ∷ g.token_close_round ∷ []) c.in_ok-capacity.ensures) in
-    let l4 = after l3 (behind (g.token_close_round ∷ []) c.in_ok-tasks.ensures) in
-    let p = err_from_is_err_and c.from_residual-in_err-close.result c.from_residual-in_err-close.ensures.1 in
-    rw (p.1, p.2) (fault_at c.close.new.self c.in_err-close.field-0.0 (g.token_close_round ∷ []) ([]) l4 c.in_err-close.ensures.read)
+    rw (p.1, p.2) (rule_fails c.args.reader.now c.read_behind.new.reader c.in_err-parts.field-0.0 11 c.requires c.in_err-parts.ensures.read)
 
 pub returns : goal.returns
-returns c =
-    let l0 = opened_rule c.args.reader.now 11 (g.token_cumulative ∷ g.token_open_round ∷ g.expr ∷ g.ctasks ∷ g.token_close_round ∷ []) c.place-place.result refl c.place-place.ensures c.requires in
-    let l1 = after l0 (behind (g.token_open_round ∷ g.expr ∷ g.ctasks ∷ g.token_close_round ∷ []) c.in_ok-expect.ensures.read) in
-    let l2 = after l1 (behind (g.expr ∷ g.ctasks ∷ g.token_close_round ∷ []) c.in_ok-open.ensures.read) in
-    let l3 = after l2 (behind (g.ctasks ∷ g.token_close_round ∷ []) c.in_ok-capacity.ensures) in
-    let l4 = after l3 (behind (g.token_close_round ∷ []) c.in_ok-tasks.ensures) in
-    let l5 = after l4 c.in_ok-close.ensures.read in
-    l5
+returns c = rule_reads 11 c.place-place.result refl c.place-place.ensures c.requires c.in_ok-parts.ensures.read

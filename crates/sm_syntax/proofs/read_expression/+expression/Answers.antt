@@ -2,7 +2,7 @@ use Rattle.std.proofs.Common.{◌≡◌, ◌∙◌, ap, sym, refl, ◌∷◌, []
 use Rattle.std.proofs.lemmas.Result.{err_from_is_err_and}
 use Rattle.sm_syntax.specs.Grammar as g
 use Rattle.sm_syntax.specs.Reading.{next}
-use Rattle.sm_syntax.proofs.Readings.{after, behind, restep, fault_at, opened_group, opened_rule, begin, one_more, kept}
+use Rattle.sm_syntax.proofs.Readings.{stay, after, behind, restep, fault_at, opened_group, opened_rule, begin, one_more, kept}
 use Rattle.sm_syntax.proofs.Predictions as predict
 use Rattle.std.proofs.Common.{subst}
 use Rattle.sm_syntax.specs.declared.terminal.Terminal.{Terminal}
@@ -10,8 +10,8 @@ use Rattle.sm_syntax.specs.Terminals.{code_of}
 use Rattle.sm_syntax.specs.Grammars.{predict as chosen_side}
 use Rattle.sm_syntax.specs.Parsing.{becomes, stands_at}
 use Rattle.sm_syntax.specs.Expressions as plain
-use Rattle.sm_syntax.specs.Expressions.{expression_of, binding_of, factor_of, term_of, addend_of, test_of, operands_of, expressions_of, comparisons_of}
-use Rattle.sm_syntax.specs.Steps.{expression_then, product_then, operand_then, operands_then, indices_then, binding_then, tests_then, comparison_then, minus_then}
+use Rattle.sm_syntax.specs.Expressions.{expression_of, binding_of, factor_of, term_of, addend_of, test_of, addends_of, operands_of, expressions_of, comparisons_of}
+use Rattle.sm_syntax.specs.Steps.{expression_then, addends_then, comparisons_then, product_then, operand_then, operands_then, indices_then, binding_then, tests_then, comparison_then, minus_then}
 use Rattle.sm_syntax.proofs.Readings.{map_more}
 use Rattle.sm_syntax.proofs.Lists.{addend_step, factor_step, expression_step, test_step, addends_each, operands_each, expressions_each, tests_each}
 use Rattle.sm_syntax.proofs.read_expression.+expression.Goals as goal
@@ -45,34 +45,25 @@ read_test-returns t c =
     let l3 = after l2 c.in_ok-right.ensures in
     restep (comparison_then (test_of c.new.result)) (λ r. ap (λ x. comparison_then x r) (sym c.new.ensures)) l3
 
-pub read_binders-returns-in_err-first : goal.read_binders-returns-in_err-first
-read_binders-returns-in_err-first t c =
+pub read_binders-returns-in_err-parts : goal.read_binders-returns-in_err-parts
+read_binders-returns-in_err-parts t c =
     let l0 = opened_rule c.args.reader.now 5 (g.bind ∷ g.more_binds ∷ g.tests ∷ []) c.place-place.result refl c.place-place.ensures (predict.binders_any (next c.args.reader.now)) in
     let p = err_from_is_err_and c.from_residual.result c.from_residual.ensures.1 in
-    rw (p.1, p.2) (fault_at c.read_bind.new.reader c.in_err-first.field-0.0 (g.bind ∷ []) (g.more_binds ∷ g.tests ∷ []) l0 c.in_err-first.ensures)
-
-pub read_binders-returns-in_err-more : goal.read_binders-returns-in_err-more
-read_binders-returns-in_err-more t c =
-    let l0 = opened_rule c.args.reader.now 5 (g.bind ∷ g.more_binds ∷ g.tests ∷ []) c.place-place.result refl c.place-place.ensures (predict.binders_any (next c.args.reader.now)) in
-    let l1 = after l0 (behind (g.more_binds ∷ g.tests ∷ []) c.in_ok-first.ensures) in
-    let p = err_from_is_err_and c.from_residual-in_err-more.result c.from_residual-in_err-more.ensures.1 in
-    rw (p.1, p.2) (fault_at c.read_more_binds.new.reader c.in_err-more.field-0.0 (g.more_binds ∷ []) (g.tests ∷ []) l1 c.in_err-more.ensures)
+    rw (p.1, p.2) (fault_at c.read.new.reader c.in_err-parts.field-0.0 (g.bind ∷ g.more_binds ∷ []) (g.tests ∷ []) l0 c.in_err-parts.ensures)
 
 pub read_binders-returns-in_err-tests : goal.read_binders-returns-in_err-tests
 read_binders-returns-in_err-tests t c =
     let l0 = opened_rule c.args.reader.now 5 (g.bind ∷ g.more_binds ∷ g.tests ∷ []) c.place-place.result refl c.place-place.ensures (predict.binders_any (next c.args.reader.now)) in
-    let l1 = after l0 (behind (g.more_binds ∷ g.tests ∷ []) c.in_ok-first.ensures) in
-    let l2 = after l1 (behind (g.tests ∷ []) c.in_ok-more.ensures) in
+    let l1 = after l0 (behind (g.tests ∷ []) c.in_ok-parts.ensures) in
     let p = err_from_is_err_and c.from_residual-in_err-tests.result c.from_residual-in_err-tests.ensures.1 in
-    rw (p.1, p.2) (fault_at c.read_tests.new.reader c.in_err-tests.field-0.0 (g.tests ∷ []) ([]) l2 c.in_err-tests.ensures)
+    rw (p.1, p.2) (fault_at c.read_tests.new.reader c.in_err-tests.field-0.0 (g.tests ∷ []) ([]) l1 c.in_err-tests.ensures)
 
 pub read_binders-returns : goal.read_binders-returns
 read_binders-returns t c =
     let l0 = opened_rule c.args.reader.now 5 (g.bind ∷ g.more_binds ∷ g.tests ∷ []) c.place-place.result refl c.place-place.ensures (predict.binders_any (next c.args.reader.now)) in
-    let l1 = after l0 (behind (g.more_binds ∷ g.tests ∷ []) c.in_ok-first.ensures) in
-    let l2 = after l1 (behind (g.tests ∷ []) c.in_ok-more.ensures) in
-    let l3 = after l2 c.in_ok-tests.ensures in
-    restep (binding_then (binding_of c.new.result)) (λ r. ap (λ x. binding_then x r) (sym c.new.ensures)) l3
+    let l1 = after l0 (behind (g.tests ∷ []) c.in_ok-parts.ensures) in
+    let l2 = after l1 c.in_ok-tests.ensures in
+    restep (binding_then (binding_of c.new.result)) (λ r. ap (λ x. binding_then x r) (sym c.new.ensures)) l2
 
 pub read_named-returns-in_err-name : goal.read_named-returns-in_err-name
 read_named-returns-in_err-name t c =
@@ -94,34 +85,45 @@ read_named-returns t c =
     let l2 = after l1 c.in_ok-indices.ensures in
     restep (operand_then (factor_of c.from_name.result)) (λ r. ap (λ x. operand_then x r) (sym c.from_name.ensures)) l2
 
-pub read_group-returns-in_err-open : goal.read_group-returns-in_err-open
-read_group-returns-in_err-open t c =
-    let l0 = opened_rule c.args.reader.now 10 (g.token_open_round ∷ g.expr ∷ g.token_close_round ∷ []) c.place-place.result refl c.place-place.ensures c.requires in
-    let p = err_from_is_err_and c.from_residual.result c.from_residual.ensures.1 in
-    rw (p.1, p.2) (fault_at c.open.new.self c.in_err-open.field-0.0 (g.token_open_round ∷ []) (g.expr ∷ g.token_close_round ∷ []) l0 c.in_err-open.ensures.read)
-
 pub read_group-returns-in_err-inner : goal.read_group-returns-in_err-inner
 read_group-returns-in_err-inner t c =
     let l0 = opened_rule c.args.reader.now 10 (g.token_open_round ∷ g.expr ∷ g.token_close_round ∷ []) c.place-place.result refl c.place-place.ensures c.requires in
-    let l1 = after l0 (behind (g.expr ∷ g.token_close_round ∷ []) c.in_ok-open.ensures.read) in
-    let p = err_from_is_err_and c.from_residual-in_err-inner.result c.from_residual-in_err-inner.ensures.1 in
-    rw (p.1, p.2) (fault_at c.read_expr.new.reader c.in_err-inner.field-0.0 (g.expr ∷ []) (g.token_close_round ∷ []) l1 c.in_err-inner.ensures)
+    let p = err_from_is_err_and c.from_residual.result c.from_residual.ensures.1 in
+    rw (p.1, p.2) (fault_at c.read_bracketed.new.reader c.in_err-inner.field-0.0 (g.token_open_round ∷ g.expr ∷ []) (g.token_close_round ∷ []) l0 c.in_err-inner.ensures)
 
 pub read_group-returns-in_err-close : goal.read_group-returns-in_err-close
 read_group-returns-in_err-close t c =
     let l0 = opened_rule c.args.reader.now 10 (g.token_open_round ∷ g.expr ∷ g.token_close_round ∷ []) c.place-place.result refl c.place-place.ensures c.requires in
-    let l1 = after l0 (behind (g.expr ∷ g.token_close_round ∷ []) c.in_ok-open.ensures.read) in
-    let l2 = after l1 (behind (g.token_close_round ∷ []) c.in_ok-inner.ensures) in
+    let l1 = after l0 (behind (g.token_close_round ∷ []) c.in_ok-inner.ensures) in
     let p = err_from_is_err_and c.from_residual-in_err-close.result c.from_residual-in_err-close.ensures.1 in
-    rw (p.1, p.2) (fault_at c.close.new.self c.in_err-close.field-0.0 (g.token_close_round ∷ []) ([]) l2 c.in_err-close.ensures.read)
+    rw (p.1, p.2) (fault_at c.close.new.self c.in_err-close.field-0.0 (g.token_close_round ∷ []) ([]) l1 c.in_err-close.ensures.read)
 
 pub read_group-returns : goal.read_group-returns
 read_group-returns t c =
     let l0 = opened_rule c.args.reader.now 10 (g.token_open_round ∷ g.expr ∷ g.token_close_round ∷ []) c.place-place.result refl c.place-place.ensures c.requires in
-    let l1 = after l0 (behind (g.expr ∷ g.token_close_round ∷ []) c.in_ok-open.ensures.read) in
-    let l2 = after l1 (behind (g.token_close_round ∷ []) c.in_ok-inner.ensures) in
-    let l3 = after l2 c.in_ok-close.ensures.read in
-    restep (operand_then (factor_of c.from_group.result)) (λ r. ap (λ x. operand_then x r) (sym (c.from_group.ensures ∙ ap (λ x. plain.group c.place-place.result (expression_of x)) c.in_ok-inner-2.ensures))) l3
+    let l1 = after l0 (behind (g.token_close_round ∷ []) c.in_ok-inner.ensures) in
+    let l2 = after l1 c.in_ok-close.ensures.read in
+    restep (operand_then (factor_of c.from_group.result)) (λ r. ap (λ x. operand_then x r) (sym c.from_group.ensures)) l2
+
+pub read_bracketed-returns-in_err-open : goal.read_bracketed-returns-in_err-open
+read_bracketed-returns-in_err-open t c =
+    let l0 = stay (g.token_open_round ∷ g.expr ∷ []) c.args.reader.now in
+    let p = err_from_is_err_and c.from_residual.result c.from_residual.ensures.1 in
+    rw (p.1, p.2) (fault_at c.open.new.self c.in_err-open.field-0.0 (g.token_open_round ∷ []) (g.expr ∷ []) l0 c.in_err-open.ensures.read)
+
+pub read_bracketed-returns-in_err-inner : goal.read_bracketed-returns-in_err-inner
+read_bracketed-returns-in_err-inner t c =
+    let l0 = stay (g.token_open_round ∷ g.expr ∷ []) c.args.reader.now in
+    let l1 = after l0 (behind (g.expr ∷ []) c.in_ok-open.ensures.read) in
+    let p = err_from_is_err_and c.from_residual-in_err-inner.result c.from_residual-in_err-inner.ensures.1 in
+    rw (p.1, p.2) (fault_at c.read_expr.new.reader c.in_err-inner.field-0.0 (g.expr ∷ []) ([]) l1 c.in_err-inner.ensures)
+
+pub read_bracketed-returns : goal.read_bracketed-returns
+read_bracketed-returns t c =
+    let l0 = stay (g.token_open_round ∷ g.expr ∷ []) c.args.reader.now in
+    let l1 = after l0 (behind (g.expr ∷ []) c.in_ok-open.ensures.read) in
+    let l2 = after l1 c.in_ok-inner.ensures in
+    restep (expression_then (expression_of c.in_ok-inner-2.inner)) (λ r. ap (λ x. expression_then (expression_of x) r) (sym c.in_ok-inner-2.ensures)) l2
 
 pub read_sum-returns-in_err-expect : goal.read_sum-returns-in_err-expect
 read_sum-returns-in_err-expect t c =
@@ -129,61 +131,57 @@ read_sum-returns-in_err-expect t c =
     let p = err_from_is_err_and c.from_residual.result c.from_residual.ensures.1 in
     rw (p.1, p.2) (fault_at c.expect.new.self c.in_err-expect.field-0.0 (g.token_sum ∷ []) (g.token_open_round ∷ g.expr ∷ g.token_for ∷ g.binders ∷ g.token_close_round ∷ []) l0 c.in_err-expect.ensures.read)
 
-pub read_sum-returns-in_err-open : goal.read_sum-returns-in_err-open
-read_sum-returns-in_err-open t c =
-    let l0 = opened_rule c.args.reader.now 10 (g.token_sum ∷ g.token_open_round ∷ g.expr ∷ g.token_for ∷ g.binders ∷ g.token_close_round ∷ []) c.place-place.result refl c.place-place.ensures c.requires in
-    let l1 = after l0 (behind (g.token_open_round ∷ g.expr ∷ g.token_for ∷ g.binders ∷ g.token_close_round ∷ []) c.in_ok-expect.ensures.read) in
-    let p = err_from_is_err_and c.from_residual-in_err-open.result c.from_residual-in_err-open.ensures.1 in
-    rw (p.1, p.2) (fault_at c.open.new.self c.in_err-open.field-0.0 (g.token_open_round ∷ []) (g.expr ∷ g.token_for ∷ g.binders ∷ g.token_close_round ∷ []) l1 c.in_err-open.ensures.read)
-
 pub read_sum-returns-in_err-summand : goal.read_sum-returns-in_err-summand
 read_sum-returns-in_err-summand t c =
     let l0 = opened_rule c.args.reader.now 10 (g.token_sum ∷ g.token_open_round ∷ g.expr ∷ g.token_for ∷ g.binders ∷ g.token_close_round ∷ []) c.place-place.result refl c.place-place.ensures c.requires in
     let l1 = after l0 (behind (g.token_open_round ∷ g.expr ∷ g.token_for ∷ g.binders ∷ g.token_close_round ∷ []) c.in_ok-expect.ensures.read) in
-    let l2 = after l1 (behind (g.expr ∷ g.token_for ∷ g.binders ∷ g.token_close_round ∷ []) c.in_ok-open.ensures.read) in
     let p = err_from_is_err_and c.from_residual-in_err-summand.result c.from_residual-in_err-summand.ensures.1 in
-    rw (p.1, p.2) (fault_at c.read_expr.new.reader c.in_err-summand.field-0.0 (g.expr ∷ []) (g.token_for ∷ g.binders ∷ g.token_close_round ∷ []) l2 c.in_err-summand.ensures)
-
-pub read_sum-returns-in_err-expect-2 : goal.read_sum-returns-in_err-expect-2
-read_sum-returns-in_err-expect-2 t c =
-    let l0 = opened_rule c.args.reader.now 10 (g.token_sum ∷ g.token_open_round ∷ g.expr ∷ g.token_for ∷ g.binders ∷ g.token_close_round ∷ []) c.place-place.result refl c.place-place.ensures c.requires in
-    let l1 = after l0 (behind (g.token_open_round ∷ g.expr ∷ g.token_for ∷ g.binders ∷ g.token_close_round ∷ []) c.in_ok-expect.ensures.read) in
-    let l2 = after l1 (behind (g.expr ∷ g.token_for ∷ g.binders ∷ g.token_close_round ∷ []) c.in_ok-open.ensures.read) in
-    let l3 = after l2 (behind (g.token_for ∷ g.binders ∷ g.token_close_round ∷ []) c.in_ok-summand.ensures) in
-    let p = err_from_is_err_and c.from_residual-in_err-expect-2.result c.from_residual-in_err-expect-2.ensures.1 in
-    rw (p.1, p.2) (fault_at c.expect-2.new.self c.in_err-expect-2.field-0.0 (g.token_for ∷ []) (g.binders ∷ g.token_close_round ∷ []) l3 c.in_err-expect-2.ensures.read)
+    rw (p.1, p.2) (fault_at c.read_bracketed.new.reader c.in_err-summand.field-0.0 (g.token_open_round ∷ g.expr ∷ []) (g.token_for ∷ g.binders ∷ g.token_close_round ∷ []) l1 c.in_err-summand.ensures)
 
 pub read_sum-returns-in_err-binders : goal.read_sum-returns-in_err-binders
 read_sum-returns-in_err-binders t c =
     let l0 = opened_rule c.args.reader.now 10 (g.token_sum ∷ g.token_open_round ∷ g.expr ∷ g.token_for ∷ g.binders ∷ g.token_close_round ∷ []) c.place-place.result refl c.place-place.ensures c.requires in
     let l1 = after l0 (behind (g.token_open_round ∷ g.expr ∷ g.token_for ∷ g.binders ∷ g.token_close_round ∷ []) c.in_ok-expect.ensures.read) in
-    let l2 = after l1 (behind (g.expr ∷ g.token_for ∷ g.binders ∷ g.token_close_round ∷ []) c.in_ok-open.ensures.read) in
-    let l3 = after l2 (behind (g.token_for ∷ g.binders ∷ g.token_close_round ∷ []) c.in_ok-summand.ensures) in
-    let l4 = after l3 (behind (g.binders ∷ g.token_close_round ∷ []) c.in_ok-expect-2.ensures.read) in
+    let l2 = after l1 (behind (g.token_for ∷ g.binders ∷ g.token_close_round ∷ []) c.in_ok-summand.ensures) in
     let p = err_from_is_err_and c.from_residual-in_err-binders.result c.from_residual-in_err-binders.ensures.1 in
-    rw (p.1, p.2) (fault_at c.read_binders.new.reader c.in_err-binders.field-0.0 (g.binders ∷ []) (g.token_close_round ∷ []) l4 c.in_err-binders.ensures)
-
-pub read_sum-returns-in_err-close : goal.read_sum-returns-in_err-close
-read_sum-returns-in_err-close t c =
-    let l0 = opened_rule c.args.reader.now 10 (g.token_sum ∷ g.token_open_round ∷ g.expr ∷ g.token_for ∷ g.binders ∷ g.token_close_round ∷ []) c.place-place.result refl c.place-place.ensures c.requires in
-    let l1 = after l0 (behind (g.token_open_round ∷ g.expr ∷ g.token_for ∷ g.binders ∷ g.token_close_round ∷ []) c.in_ok-expect.ensures.read) in
-    let l2 = after l1 (behind (g.expr ∷ g.token_for ∷ g.binders ∷ g.token_close_round ∷ []) c.in_ok-open.ensures.read) in
-    let l3 = after l2 (behind (g.token_for ∷ g.binders ∷ g.token_close_round ∷ []) c.in_ok-summand.ensures) in
-    let l4 = after l3 (behind (g.binders ∷ g.token_close_round ∷ []) c.in_ok-expect-2.ensures.read) in
-    let l5 = after l4 (behind (g.token_close_round ∷ []) c.in_ok-binders.ensures) in
-    let p = err_from_is_err_and c.from_residual-in_err-close.result c.from_residual-in_err-close.ensures.1 in
-    rw (p.1, p.2) (fault_at c.close.new.self c.in_err-close.field-0.0 (g.token_close_round ∷ []) ([]) l5 c.in_err-close.ensures.read)
+    rw (p.1, p.2) (fault_at c.read_scope.new.reader c.in_err-binders.field-0.0 (g.token_for ∷ g.binders ∷ g.token_close_round ∷ []) ([]) l2 c.in_err-binders.ensures)
 
 pub read_sum-returns : goal.read_sum-returns
 read_sum-returns t c =
     let l0 = opened_rule c.args.reader.now 10 (g.token_sum ∷ g.token_open_round ∷ g.expr ∷ g.token_for ∷ g.binders ∷ g.token_close_round ∷ []) c.place-place.result refl c.place-place.ensures c.requires in
     let l1 = after l0 (behind (g.token_open_round ∷ g.expr ∷ g.token_for ∷ g.binders ∷ g.token_close_round ∷ []) c.in_ok-expect.ensures.read) in
-    let l2 = after l1 (behind (g.expr ∷ g.token_for ∷ g.binders ∷ g.token_close_round ∷ []) c.in_ok-open.ensures.read) in
-    let l3 = after l2 (behind (g.token_for ∷ g.binders ∷ g.token_close_round ∷ []) c.in_ok-summand.ensures) in
-    let l4 = after l3 (behind (g.binders ∷ g.token_close_round ∷ []) c.in_ok-expect-2.ensures.read) in
-    let l5 = after l4 (behind (g.token_close_round ∷ []) c.in_ok-binders.ensures) in
-    let l6 = after l5 c.in_ok-close.ensures.read in
-    restep (operand_then (factor_of c.from_sum.result)) (λ r. ap (λ x. operand_then x r) (sym (c.from_sum.ensures ∙ ap (λ x. plain.sum c.place-place.result (expression_of x) (binding_of c.in_ok-binders-2.binders)) c.in_ok-summand-2.ensures ∙ ap (λ x. plain.sum c.place-place.result (expression_of c.in_ok-summand.summand) (binding_of x)) c.in_ok-binders-2.ensures))) l6
+    let l2 = after l1 (behind (g.token_for ∷ g.binders ∷ g.token_close_round ∷ []) c.in_ok-summand.ensures) in
+    let l3 = after l2 c.in_ok-binders.ensures in
+    restep (operand_then (factor_of c.from_sum.result)) (λ r. ap (λ x. operand_then x r) (sym (c.from_sum.ensures ∙ ap (λ x. plain.sum c.place-place.result (expression_of c.in_ok-summand.summand) (binding_of x)) c.in_ok-binders-2.ensures))) l3
+
+pub read_scope-returns-in_err-expect : goal.read_scope-returns-in_err-expect
+read_scope-returns-in_err-expect t c =
+    let l0 = stay (g.token_for ∷ g.binders ∷ g.token_close_round ∷ []) c.args.reader.now in
+    let p = err_from_is_err_and c.from_residual.result c.from_residual.ensures.1 in
+    rw (p.1, p.2) (fault_at c.expect.new.self c.in_err-expect.field-0.0 (g.token_for ∷ []) (g.binders ∷ g.token_close_round ∷ []) l0 c.in_err-expect.ensures.read)
+
+pub read_scope-returns-in_err-binders : goal.read_scope-returns-in_err-binders
+read_scope-returns-in_err-binders t c =
+    let l0 = stay (g.token_for ∷ g.binders ∷ g.token_close_round ∷ []) c.args.reader.now in
+    let l1 = after l0 (behind (g.binders ∷ g.token_close_round ∷ []) c.in_ok-expect.ensures.read) in
+    let p = err_from_is_err_and c.from_residual-in_err-binders.result c.from_residual-in_err-binders.ensures.1 in
+    rw (p.1, p.2) (fault_at c.read_binders.new.reader c.in_err-binders.field-0.0 (g.binders ∷ []) (g.token_close_round ∷ []) l1 c.in_err-binders.ensures)
+
+pub read_scope-returns-in_err-close : goal.read_scope-returns-in_err-close
+read_scope-returns-in_err-close t c =
+    let l0 = stay (g.token_for ∷ g.binders ∷ g.token_close_round ∷ []) c.args.reader.now in
+    let l1 = after l0 (behind (g.binders ∷ g.token_close_round ∷ []) c.in_ok-expect.ensures.read) in
+    let l2 = after l1 (behind (g.token_close_round ∷ []) c.in_ok-binders.ensures) in
+    let p = err_from_is_err_and c.from_residual-in_err-close.result c.from_residual-in_err-close.ensures.1 in
+    rw (p.1, p.2) (fault_at c.close.new.self c.in_err-close.field-0.0 (g.token_close_round ∷ []) ([]) l2 c.in_err-close.ensures.read)
+
+pub read_scope-returns : goal.read_scope-returns
+read_scope-returns t c =
+    let l0 = stay (g.token_for ∷ g.binders ∷ g.token_close_round ∷ []) c.args.reader.now in
+    let l1 = after l0 (behind (g.binders ∷ g.token_close_round ∷ []) c.in_ok-expect.ensures.read) in
+    let l2 = after l1 (behind (g.token_close_round ∷ []) c.in_ok-binders.ensures) in
+    let l3 = after l2 c.in_ok-close.ensures.read in
+    restep (binding_then (binding_of c.in_ok-binders.binders)) (λ r. refl) l3
 
 pub read_expr-returns-in_err-first : goal.read_expr-returns-in_err-first
 read_expr-returns-in_err-first t c =
@@ -192,48 +190,53 @@ read_expr-returns-in_err-first t c =
     let p = err_from_is_err_and c.from_residual.result c.from_residual.ensures.1 in
     rw (p.1, p.2) (fault_at c.read_term.new.reader c.in_err-first.field-0.0 (g.term ∷ []) (g.more_terms ∷ []) l1 c.in_err-first.ensures)
 
-pub read_expr-terms-init : goal.read_expr-terms-init
-read_expr-terms-init t c = begin addend_step (map addend_of c.new-more.result) (ap (map addend_of) c.new-more.ensures) c.read_term.new.reader (g.more_terms ∷ [])
-
-pub read_expr-returns-in_err-sign : goal.read_expr-returns-in_err-sign
-read_expr-returns-in_err-sign t c =
+pub read_expr-returns-in_err-more : goal.read_expr-returns-in_err-more
+read_expr-returns-in_err-more t c =
     let l0 = opened_rule c.args.reader.now 8 (g.minus ∷ g.term ∷ g.more_terms ∷ []) c.place-place.result refl c.place-place.ensures (predict.expr_any (next c.args.reader.now)) in
     let l1 = after l0 (behind (g.term ∷ g.more_terms ∷ []) c.read_minus-is_negated.ensures) in
     let l2 = after l1 (behind (g.more_terms ∷ []) c.in_ok-first.ensures) in
-    let m0 = opened_group c.terms.reader 36 (g.sign ∷ g.term ∷ g.more_terms ∷ []) refl (subst (λ (t : Terminal). chosen_side g.grammar 36 (code_of t) ≡ Some (g.sign ∷ g.term ∷ g.more_terms ∷ [])) c.terminal.ensures (predict.more_terms_some c.terminal.result (sym c.begins_sign.ensures ∙ c.terms-test.true))) in
-    let p = err_from_is_err_and c.from_residual-in_err-sign.result c.from_residual-in_err-sign.ensures.1 in
-    rw (p.1, p.2) (fault_at c.read_sign.new.reader c.in_err-sign.field-0.0 (g.sign ∷ []) (g.term ∷ g.more_terms ∷ []) (after (after l2 c.terms.invariant) m0) c.in_err-sign.ensures.read)
-
-pub read_expr-returns-in_err-term : goal.read_expr-returns-in_err-term
-read_expr-returns-in_err-term t c =
-    let l0 = opened_rule c.args.reader.now 8 (g.minus ∷ g.term ∷ g.more_terms ∷ []) c.place-place.result refl c.place-place.ensures (predict.expr_any (next c.args.reader.now)) in
-    let l1 = after l0 (behind (g.term ∷ g.more_terms ∷ []) c.read_minus-is_negated.ensures) in
-    let l2 = after l1 (behind (g.more_terms ∷ []) c.in_ok-first.ensures) in
-    let m0 = opened_group c.terms.reader 36 (g.sign ∷ g.term ∷ g.more_terms ∷ []) refl (subst (λ (t : Terminal). chosen_side g.grammar 36 (code_of t) ≡ Some (g.sign ∷ g.term ∷ g.more_terms ∷ [])) c.terminal.ensures (predict.more_terms_some c.terminal.result (sym c.begins_sign.ensures ∙ c.terms-test.true))) in
-    let m1 = after m0 (behind (g.term ∷ g.more_terms ∷ []) c.in_ok-sign.ensures.read) in
-    let p = err_from_is_err_and c.from_residual-in_err-term.result c.from_residual-in_err-term.ensures.1 in
-    rw (p.1, p.2) (fault_at c.read_term-in-terms.new.reader c.in_err-term.field-0.0 (g.term ∷ []) (g.more_terms ∷ []) (after (after l2 c.terms.invariant) m1) c.in_err-term.ensures)
-
-pub read_expr-terms-preserved : goal.read_expr-terms-preserved
-read_expr-terms-preserved t c =
-    let m0 = opened_group c.terms.reader 36 (g.sign ∷ g.term ∷ g.more_terms ∷ []) refl (subst (λ (t : Terminal). chosen_side g.grammar 36 (code_of t) ≡ Some (g.sign ∷ g.term ∷ g.more_terms ∷ [])) c.terminal.ensures (predict.more_terms_some c.terminal.result (sym c.begins_sign.ensures ∙ c.terms-test.true))) in
-    let m1 = after m0 (behind (g.term ∷ g.more_terms ∷ []) c.in_ok-sign.ensures.read) in
-    let m2 = after m1 (behind (g.more_terms ∷ []) c.in_ok-term.ensures) in
-    one_more addend_step (map addend_of c.terms.more) (map addend_of c.push.new.self) (addend_of c.new-addend.result) (ap (map addend_of) c.in_ok-push.ensures.ok ∙ map_more addend_of c.terms.more c.new-addend.result)
-    c.terms.invariant (restep (addend_step (addend_of c.new-addend.result)) (λ r. ap (λ x. addend_step x r) (sym c.new-addend.ensures)) m2)
-
-pub read_expr-terms-smaller : goal.read_expr-terms-smaller
-read_expr-terms-smaller t c = let s = c.in_ok-sign.ensures.shorter in let o = c.in_ok-term.ensures.order in omega arith
+    let p = err_from_is_err_and c.from_residual-in_err-more.result c.from_residual-in_err-more.ensures.1 in
+    rw (p.1, p.2) (fault_at c.read_more_terms.new.reader c.in_err-more.field-0.0 (g.more_terms ∷ []) ([]) l2 c.in_err-more.ensures)
 
 pub read_expr-returns : goal.read_expr-returns
 read_expr-returns t c =
     let l0 = opened_rule c.args.reader.now 8 (g.minus ∷ g.term ∷ g.more_terms ∷ []) c.place-place.result refl c.place-place.ensures (predict.expr_any (next c.args.reader.now)) in
     let l1 = after l0 (behind (g.term ∷ g.more_terms ∷ []) c.read_minus-is_negated.ensures) in
     let l2 = after l1 (behind (g.more_terms ∷ []) c.in_ok-first.ensures) in
+    let l3 = after l2 c.in_ok-more.ensures in
+    restep (expression_then (expression_of c.new.result)) (λ r. ap (λ x. expression_then x r) (sym c.new.ensures)) l3
+
+pub read_more_terms-terms-init : goal.read_more_terms-terms-init
+read_more_terms-terms-init t c = begin addend_step (map addend_of c.new-terms.result) (ap (map addend_of) c.new-terms.ensures) c.args.reader.now (g.more_terms ∷ [])
+
+pub read_more_terms-returns-in_err-sign : goal.read_more_terms-returns-in_err-sign
+read_more_terms-returns-in_err-sign t c =
+    let m0 = opened_group c.terms.reader 36 (g.sign ∷ g.term ∷ g.more_terms ∷ []) refl (subst (λ (t : Terminal). chosen_side g.grammar 36 (code_of t) ≡ Some (g.sign ∷ g.term ∷ g.more_terms ∷ [])) c.terminal.ensures (predict.more_terms_some c.terminal.result (sym c.begins_sign.ensures ∙ c.terms-test.true))) in
+    let p = err_from_is_err_and c.from_residual.result c.from_residual.ensures.1 in
+    rw (p.1, p.2) (fault_at c.read_sign.new.reader c.in_err-sign.field-0.0 (g.sign ∷ []) (g.term ∷ g.more_terms ∷ []) (after c.terms.invariant m0) c.in_err-sign.ensures.read)
+
+pub read_more_terms-returns-in_err-term : goal.read_more_terms-returns-in_err-term
+read_more_terms-returns-in_err-term t c =
+    let m0 = opened_group c.terms.reader 36 (g.sign ∷ g.term ∷ g.more_terms ∷ []) refl (subst (λ (t : Terminal). chosen_side g.grammar 36 (code_of t) ≡ Some (g.sign ∷ g.term ∷ g.more_terms ∷ [])) c.terminal.ensures (predict.more_terms_some c.terminal.result (sym c.begins_sign.ensures ∙ c.terms-test.true))) in
+    let m1 = after m0 (behind (g.term ∷ g.more_terms ∷ []) c.in_ok-sign.ensures.read) in
+    let p = err_from_is_err_and c.from_residual-in_err-term.result c.from_residual-in_err-term.ensures.1 in
+    rw (p.1, p.2) (fault_at c.read_term.new.reader c.in_err-term.field-0.0 (g.term ∷ []) (g.more_terms ∷ []) (after c.terms.invariant m1) c.in_err-term.ensures)
+
+pub read_more_terms-terms-preserved : goal.read_more_terms-terms-preserved
+read_more_terms-terms-preserved t c =
+    let m0 = opened_group c.terms.reader 36 (g.sign ∷ g.term ∷ g.more_terms ∷ []) refl (subst (λ (t : Terminal). chosen_side g.grammar 36 (code_of t) ≡ Some (g.sign ∷ g.term ∷ g.more_terms ∷ [])) c.terminal.ensures (predict.more_terms_some c.terminal.result (sym c.begins_sign.ensures ∙ c.terms-test.true))) in
+    let m1 = after m0 (behind (g.term ∷ g.more_terms ∷ []) c.in_ok-sign.ensures.read) in
+    let m2 = after m1 (behind (g.more_terms ∷ []) c.in_ok-term.ensures) in
+    one_more addend_step (map addend_of c.terms.terms) (map addend_of c.push.new.self) (addend_of c.new-addend.result) (ap (map addend_of) c.in_ok-push.ensures.ok ∙ map_more addend_of c.terms.terms c.new-addend.result)
+    c.terms.invariant (restep (addend_step (addend_of c.new-addend.result)) (λ r. ap (λ x. addend_step x r) (sym c.new-addend.ensures)) m2)
+
+pub read_more_terms-terms-smaller : goal.read_more_terms-terms-smaller
+read_more_terms-terms-smaller t c = let s = c.in_ok-sign.ensures.shorter in let o = c.in_ok-term.ensures.order in omega arith
+
+pub read_more_terms-returns : goal.read_more_terms-returns
+read_more_terms-returns t c =
     let ends = opened_group c.terms.reader 36 [] refl (subst (λ (t : Terminal). chosen_side g.grammar 36 (code_of t) ≡ Some ([])) c.terminal.ensures (predict.more_terms_none c.terminal.result (sym c.begins_sign.ensures ∙ c.terms-test.false))) in
-    restep (expression_then (expression_of c.new.result))
-    (λ r. ap (λ x. becomes g.expr (g.minus ∷ g.term ∷ g.more_terms ∷ []) ∷ stands_at c.place-place.result ∷ minus_then c.read_minus-is_negated.result (product_then (term_of c.in_ok-first.first) x)) (addends_each (map addend_of c.terms.more) r) ∙ ap (λ x. expression_then x r) (sym c.new.ensures))
-    (after (after l2 c.terms.invariant) ends)
+    restep (addends_then (addends_of (map addend_of c.terms.terms))) (addends_each (map addend_of c.terms.terms)) (after c.terms.invariant ends)
 
 pub read_term-returns-in_err-first : goal.read_term-returns-in_err-first
 read_term-returns-in_err-first t c =
@@ -303,43 +306,53 @@ read_indices-returns-in_err-first t c =
     let p = err_from_is_err_and c.from_residual-in_err-first.result c.from_residual-in_err-first.ensures.1 in
     rw (p.1, p.2) (fault_at c.read_expr.new.reader c.in_err-first.field-0.0 (g.expr ∷ []) (g.more_exprs ∷ g.token_close_square ∷ []) l1 c.in_err-first.ensures)
 
-pub read_indices-indices-init : goal.read_indices-indices-init
-read_indices-indices-init t c = begin expression_step (map expression_of c.new-more.result) (ap (map expression_of) c.new-more.ensures) c.read_expr.new.reader (g.more_exprs ∷ [])
-
-pub read_indices-returns-in_err-index : goal.read_indices-returns-in_err-index
-read_indices-returns-in_err-index t c =
+pub read_indices-returns-in_err-more : goal.read_indices-returns-in_err-more
+read_indices-returns-in_err-more t c =
     let l0 = opened_group c.args.reader.now 39 (g.token_open_square ∷ g.expr ∷ g.more_exprs ∷ g.token_close_square ∷ []) refl (predict.indices_some c.args.reader.now (sym c.is.ensures ∙ c.if-not-is.false)) in
     let l1 = after l0 (behind (g.expr ∷ g.more_exprs ∷ g.token_close_square ∷ []) c.in_ok-open.ensures.read) in
     let l2 = after l1 (behind (g.more_exprs ∷ g.token_close_square ∷ []) c.in_ok-first.ensures) in
-    let m = after (opened_group c.indices.reader 30 (g.token_comma ∷ g.expr ∷ g.more_exprs ∷ []) refl (predict.more_exprs_some c.indices.reader (sym c.accept.ensures.next ∙ c.indices-test.true))) (behind (g.expr ∷ g.more_exprs ∷ []) (c.accept.ensures.lead c.indices-test.true)) in
-    let p = err_from_is_err_and c.from_residual-in_err-index.result c.from_residual-in_err-index.ensures.1 in
-    rw (p.1, p.2) (fault_at c.read_expr-in-indices.new.reader c.in_err-index.field-0.0 (g.expr ∷ []) (g.more_exprs ∷ g.token_close_square ∷ []) (after (after l2 (behind (g.token_close_square ∷ []) c.indices.invariant)) (behind (g.token_close_square ∷ []) m)) c.in_err-index.ensures)
-
-pub read_indices-indices-preserved : goal.read_indices-indices-preserved
-read_indices-indices-preserved t c =
-    let m = after (opened_group c.indices.reader 30 (g.token_comma ∷ g.expr ∷ g.more_exprs ∷ []) refl (predict.more_exprs_some c.indices.reader (sym c.accept.ensures.next ∙ c.indices-test.true))) (behind (g.expr ∷ g.more_exprs ∷ []) (c.accept.ensures.lead c.indices-test.true)) in
-    one_more expression_step (map expression_of c.indices.more) (map expression_of c.push.new.self) (expression_of c.in_ok-index.index) (ap (map expression_of) c.in_ok-push.ensures.ok ∙ map_more expression_of c.indices.more c.in_ok-index.index)
-    c.indices.invariant (after m (behind (g.more_exprs ∷ []) c.in_ok-index.ensures))
+    let p = err_from_is_err_and c.from_residual-in_err-more.result c.from_residual-in_err-more.ensures.1 in
+    rw (p.1, p.2) (fault_at c.read_more_exprs.new.reader c.in_err-more.field-0.0 (g.more_exprs ∷ []) (g.token_close_square ∷ []) l2 c.in_err-more.ensures)
 
 pub read_indices-returns-in_err-close : goal.read_indices-returns-in_err-close
 read_indices-returns-in_err-close t c =
     let l0 = opened_group c.args.reader.now 39 (g.token_open_square ∷ g.expr ∷ g.more_exprs ∷ g.token_close_square ∷ []) refl (predict.indices_some c.args.reader.now (sym c.is.ensures ∙ c.if-not-is.false)) in
     let l1 = after l0 (behind (g.expr ∷ g.more_exprs ∷ g.token_close_square ∷ []) c.in_ok-open.ensures.read) in
     let l2 = after l1 (behind (g.more_exprs ∷ g.token_close_square ∷ []) c.in_ok-first.ensures) in
-    let ends = kept (c.accept.ensures.kept c.indices-test.false) (opened_group c.indices.reader 30 [] refl (predict.more_exprs_none c.indices.reader (sym c.accept.ensures.next ∙ c.indices-test.false))) in
+    let l3 = after l2 (behind (g.token_close_square ∷ []) c.in_ok-more.ensures) in
     let p = err_from_is_err_and c.from_residual-in_err-close.result c.from_residual-in_err-close.ensures.1 in
-    rw (p.1, p.2) (fault_at c.close.new.self c.in_err-close.field-0.0 (g.token_close_square ∷ []) [] (after (after l2 (behind (g.token_close_square ∷ []) c.indices.invariant)) (behind (g.token_close_square ∷ []) ends)) c.in_err-close.ensures.read)
+    rw (p.1, p.2) (fault_at c.close.new.self c.in_err-close.field-0.0 (g.token_close_square ∷ []) ([]) l3 c.in_err-close.ensures.read)
 
 pub read_indices-returns : goal.read_indices-returns
 read_indices-returns t c =
     let l0 = opened_group c.args.reader.now 39 (g.token_open_square ∷ g.expr ∷ g.more_exprs ∷ g.token_close_square ∷ []) refl (predict.indices_some c.args.reader.now (sym c.is.ensures ∙ c.if-not-is.false)) in
     let l1 = after l0 (behind (g.expr ∷ g.more_exprs ∷ g.token_close_square ∷ []) c.in_ok-open.ensures.read) in
     let l2 = after l1 (behind (g.more_exprs ∷ g.token_close_square ∷ []) c.in_ok-first.ensures) in
-    let ends = kept (c.accept.ensures.kept c.indices-test.false) (opened_group c.indices.reader 30 [] refl (predict.more_exprs_none c.indices.reader (sym c.accept.ensures.next ∙ c.indices-test.false))) in
-    let all : c.append.new.self ≡ c.in_ok-first.first ∷ c.indices.more = c.in_ok-append.ensures ∙ ap (λ xs. xs ++ c.indices.more) (c.in_ok-push-2.ensures.ok ∙ ap (λ xs. xs ++ c.in_ok-first.first ∷ []) c.new-indices.ensures) in
-    restep (indices_then (expressions_of (map expression_of c.append.new.self)))
-    (λ r. ap (λ x. becomes g.indices (g.token_open_square ∷ g.expr ∷ g.more_exprs ∷ g.token_close_square ∷ []) ∷ expression_then (expression_of c.in_ok-first.first) x) (expressions_each (map expression_of c.indices.more) r) ∙ ap (λ xs. indices_then (expressions_of (map expression_of xs)) r) (sym all))
-    (after (after (after l2 (behind (g.token_close_square ∷ []) c.indices.invariant)) (behind (g.token_close_square ∷ []) ends)) c.in_ok-close.ensures.read)
+    let l3 = after l2 (behind (g.token_close_square ∷ []) c.in_ok-more.ensures) in
+    let l4 = after l3 c.in_ok-close.ensures.read in
+    restep (indices_then (expressions_of (map expression_of c.in_ok-indices.indices)))
+    (λ r. ap (λ x. becomes g.indices (g.token_open_square ∷ g.expr ∷ g.more_exprs ∷ g.token_close_square ∷ []) ∷ expression_then (expression_of c.in_ok-first.first) x) (expressions_each (map expression_of c.in_ok-more.more) r) ∙ ap (λ xs. indices_then (expressions_of (map expression_of xs)) r) (sym c.in_ok-indices.ensures))
+    l4
+
+pub read_more_exprs-exprs-init : goal.read_more_exprs-exprs-init
+read_more_exprs-exprs-init t c = begin expression_step (map expression_of c.new-exprs.result) (ap (map expression_of) c.new-exprs.ensures) c.args.reader.now (g.more_exprs ∷ [])
+
+pub read_more_exprs-returns-in_err-expr : goal.read_more_exprs-returns-in_err-expr
+read_more_exprs-returns-in_err-expr t c =
+    let m = after (opened_group c.exprs.reader 30 (g.token_comma ∷ g.expr ∷ g.more_exprs ∷ []) refl (predict.more_exprs_some c.exprs.reader (sym c.accept.ensures.next ∙ c.exprs-test.true))) (behind (g.expr ∷ g.more_exprs ∷ []) (c.accept.ensures.lead c.exprs-test.true)) in
+    let p = err_from_is_err_and c.from_residual.result c.from_residual.ensures.1 in
+    rw (p.1, p.2) (fault_at c.read_expr.new.reader c.in_err-expr.field-0.0 (g.expr ∷ []) (g.more_exprs ∷ []) (after c.exprs.invariant m) c.in_err-expr.ensures)
+
+pub read_more_exprs-exprs-preserved : goal.read_more_exprs-exprs-preserved
+read_more_exprs-exprs-preserved t c =
+    let m = after (opened_group c.exprs.reader 30 (g.token_comma ∷ g.expr ∷ g.more_exprs ∷ []) refl (predict.more_exprs_some c.exprs.reader (sym c.accept.ensures.next ∙ c.exprs-test.true))) (behind (g.expr ∷ g.more_exprs ∷ []) (c.accept.ensures.lead c.exprs-test.true)) in
+    one_more expression_step (map expression_of c.exprs.exprs) (map expression_of c.push.new.self) (expression_of c.in_ok-expr.expr) (ap (map expression_of) c.in_ok-push.ensures.ok ∙ map_more expression_of c.exprs.exprs c.in_ok-expr.expr)
+    c.exprs.invariant (after m (behind (g.more_exprs ∷ []) c.in_ok-expr.ensures))
+
+pub read_more_exprs-returns : goal.read_more_exprs-returns
+read_more_exprs-returns t c =
+    let ends = kept (c.accept.ensures.kept c.exprs-test.false) (opened_group c.exprs.reader 30 [] refl (predict.more_exprs_none c.exprs.reader (sym c.accept.ensures.next ∙ c.exprs-test.false))) in
+    after c.exprs.invariant ends
 
 pub read_tests-returns-then-not-accept : goal.read_tests-returns-then-not-accept
 read_tests-returns-then-not-accept t c = restep (tests_then (comparisons_of (map test_of c.new.result))) (λ r. ap (λ xs. tests_then (comparisons_of (map test_of xs)) r) (sym c.new.ensures)) (kept (c.accept.ensures.kept c.if-not-accept.true) (opened_group c.args.reader.now 32 [] refl (predict.tests_none c.args.reader.now (sym c.accept.ensures.next ∙ c.if-not-accept.true))))
@@ -351,31 +364,38 @@ read_tests-returns-in_err-first t c =
     let p = err_from_is_err_and c.from_residual.result c.from_residual.ensures.1 in
     rw (p.1, p.2) (fault_at c.read_test.new.reader c.in_err-first.field-0.0 (g.test ∷ []) (g.more_tests ∷ []) l1 c.in_err-first.ensures)
 
-pub read_tests-tests-init : goal.read_tests-tests-init
-read_tests-tests-init t c = begin test_step (map test_of c.new-more.result) (ap (map test_of) c.new-more.ensures) c.read_test.new.reader (g.more_tests ∷ [])
-
-pub read_tests-returns-in_err-test : goal.read_tests-returns-in_err-test
-read_tests-returns-in_err-test t c =
+pub read_tests-returns-in_err-more : goal.read_tests-returns-in_err-more
+read_tests-returns-in_err-more t c =
     let l0 = opened_group c.args.reader.now 32 (g.token_if ∷ g.test ∷ g.more_tests ∷ []) refl (predict.tests_some c.args.reader.now (sym c.accept.ensures.next ∙ c.if-not-accept.false)) in
     let l1 = after l0 (behind (g.test ∷ g.more_tests ∷ []) (c.accept.ensures.lead c.if-not-accept.false)) in
     let l2 = after l1 (behind (g.more_tests ∷ []) c.in_ok-first.ensures) in
-    let m = after (opened_group c.tests.reader 33 (g.token_and ∷ g.test ∷ g.more_tests ∷ []) refl (predict.more_tests_some c.tests.reader (sym c.accept-in-tests.ensures.next ∙ c.tests-test.true))) (behind (g.test ∷ g.more_tests ∷ []) (c.accept-in-tests.ensures.lead c.tests-test.true)) in
-    let p = err_from_is_err_and c.from_residual-in_err-test.result c.from_residual-in_err-test.ensures.1 in
-    rw (p.1, p.2) (fault_at c.read_test-in-tests.new.reader c.in_err-test.field-0.0 (g.test ∷ []) (g.more_tests ∷ []) (after (after l2 (behind ([]) c.tests.invariant)) (behind ([]) m)) c.in_err-test.ensures)
-
-pub read_tests-tests-preserved : goal.read_tests-tests-preserved
-read_tests-tests-preserved t c =
-    let m = after (opened_group c.tests.reader 33 (g.token_and ∷ g.test ∷ g.more_tests ∷ []) refl (predict.more_tests_some c.tests.reader (sym c.accept-in-tests.ensures.next ∙ c.tests-test.true))) (behind (g.test ∷ g.more_tests ∷ []) (c.accept-in-tests.ensures.lead c.tests-test.true)) in
-    one_more test_step (map test_of c.tests.more) (map test_of c.push.new.self) (test_of c.in_ok-test.test) (ap (map test_of) c.in_ok-push.ensures.ok ∙ map_more test_of c.tests.more c.in_ok-test.test)
-    c.tests.invariant (after m (behind (g.more_tests ∷ []) c.in_ok-test.ensures))
+    let p = err_from_is_err_and c.from_residual-in_err-more.result c.from_residual-in_err-more.ensures.1 in
+    rw (p.1, p.2) (fault_at c.read_more_tests.new.reader c.in_err-more.field-0.0 (g.more_tests ∷ []) ([]) l2 c.in_err-more.ensures)
 
 pub read_tests-returns : goal.read_tests-returns
 read_tests-returns t c =
     let l0 = opened_group c.args.reader.now 32 (g.token_if ∷ g.test ∷ g.more_tests ∷ []) refl (predict.tests_some c.args.reader.now (sym c.accept.ensures.next ∙ c.if-not-accept.false)) in
     let l1 = after l0 (behind (g.test ∷ g.more_tests ∷ []) (c.accept.ensures.lead c.if-not-accept.false)) in
     let l2 = after l1 (behind (g.more_tests ∷ []) c.in_ok-first.ensures) in
-    let ends = kept (c.accept-in-tests.ensures.kept c.tests-test.false) (opened_group c.tests.reader 33 [] refl (predict.more_tests_none c.tests.reader (sym c.accept-in-tests.ensures.next ∙ c.tests-test.false))) in
-    let all : c.append.new.self ≡ c.in_ok-first.first ∷ c.tests.more = c.in_ok-append.ensures ∙ ap (λ xs. xs ++ c.tests.more) (c.in_ok-push-2.ensures.ok ∙ ap (λ xs. xs ++ c.in_ok-first.first ∷ []) c.new-tests.ensures) in
-    restep (tests_then (comparisons_of (map test_of c.append.new.self)))
-    (λ r. ap (λ x. becomes g.tests (g.token_if ∷ g.test ∷ g.more_tests ∷ []) ∷ comparison_then (test_of c.in_ok-first.first) x) (tests_each (map test_of c.tests.more) r) ∙ ap (λ xs. tests_then (comparisons_of (map test_of xs)) r) (sym all))
-    (after (after l2 c.tests.invariant) ends)
+    let l3 = after l2 c.in_ok-more.ensures in
+    restep (tests_then (comparisons_of (map test_of c.in_ok-tests.tests))) (λ r. ap (λ xs. tests_then (comparisons_of (map test_of xs)) r) (sym c.in_ok-tests.ensures)) l3
+
+pub read_more_tests-tests-init : goal.read_more_tests-tests-init
+read_more_tests-tests-init t c = begin test_step (map test_of c.new-tests.result) (ap (map test_of) c.new-tests.ensures) c.args.reader.now (g.more_tests ∷ [])
+
+pub read_more_tests-returns-in_err-test : goal.read_more_tests-returns-in_err-test
+read_more_tests-returns-in_err-test t c =
+    let m = after (opened_group c.tests.reader 33 (g.token_and ∷ g.test ∷ g.more_tests ∷ []) refl (predict.more_tests_some c.tests.reader (sym c.accept.ensures.next ∙ c.tests-test.true))) (behind (g.test ∷ g.more_tests ∷ []) (c.accept.ensures.lead c.tests-test.true)) in
+    let p = err_from_is_err_and c.from_residual.result c.from_residual.ensures.1 in
+    rw (p.1, p.2) (fault_at c.read_test.new.reader c.in_err-test.field-0.0 (g.test ∷ []) (g.more_tests ∷ []) (after c.tests.invariant m) c.in_err-test.ensures)
+
+pub read_more_tests-tests-preserved : goal.read_more_tests-tests-preserved
+read_more_tests-tests-preserved t c =
+    let m = after (opened_group c.tests.reader 33 (g.token_and ∷ g.test ∷ g.more_tests ∷ []) refl (predict.more_tests_some c.tests.reader (sym c.accept.ensures.next ∙ c.tests-test.true))) (behind (g.test ∷ g.more_tests ∷ []) (c.accept.ensures.lead c.tests-test.true)) in
+    one_more test_step (map test_of c.tests.tests) (map test_of c.push.new.self) (test_of c.in_ok-test.test) (ap (map test_of) c.in_ok-push.ensures.ok ∙ map_more test_of c.tests.tests c.in_ok-test.test)
+    c.tests.invariant (after m (behind (g.more_tests ∷ []) c.in_ok-test.ensures))
+
+pub read_more_tests-returns : goal.read_more_tests-returns
+read_more_tests-returns t c =
+    let ends = kept (c.accept.ensures.kept c.tests-test.false) (opened_group c.tests.reader 33 [] refl (predict.more_tests_none c.tests.reader (sym c.accept.ensures.next ∙ c.tests-test.false))) in
+    restep (comparisons_then (comparisons_of (map test_of c.tests.tests))) (tests_each (map test_of c.tests.tests)) (after c.tests.invariant ends)

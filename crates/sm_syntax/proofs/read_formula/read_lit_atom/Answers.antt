@@ -10,7 +10,7 @@ pub returns-in_err-lit : goal.returns-in_err-lit
 returns-in_err-lit c =
     let l0 = opened_rule c.args.reader.now 21 (g.lit ∷ []) c.place-place.result refl c.place-place.ensures c.requires in
     let p = err_from_is_err_and c.from_residual.result c.from_residual.ensures.1 in
-    rw (p.1, p.2) (fault_at c.read_lit.new.reader c.in_err-lit.field-0.0 (g.lit ∷ []) ([]) l0 c.in_err-lit.ensures)
+    rw (p.1, p.2) (fault_at c.read.new.reader c.in_err-lit.field-0.0 (g.lit ∷ []) ([]) l0 c.in_err-lit.ensures)
 
 pub returns : goal.returns
 returns c =

@@ -1,25 +1,12 @@
-use Rattle.std.proofs.Common.{refl, ◌∷◌, []}
+use Rattle.std.proofs.Common.{refl}
 use Rattle.std.proofs.lemmas.Result.{err_from_is_err_and}
-use Rattle.sm_syntax.specs.Grammar as g
-use Rattle.sm_syntax.proofs.Readings.{after, behind, fault_at, opened_rule}
+use Rattle.sm_syntax.proofs.Readings.{rule_reads, rule_fails}
 use Rattle.sm_syntax.proofs.read_model.read_set_kind.Goals as goal
-
-pub returns-in_err-expect : goal.returns-in_err-expect
-returns-in_err-expect c =
-    let l0 = opened_rule c.args.reader.now 2 (g.token_set ∷ g.values ∷ []) c.place-place.result refl c.place-place.ensures c.requires in
-    let p = err_from_is_err_and c.from_residual.result c.from_residual.ensures.1 in
-    rw (p.1, p.2) (fault_at c.expect.new.self c.in_err-expect.field-0.0 (g.token_set ∷ []) (g.values ∷ []) l0 c.in_err-expect.ensures.read)
 
 pub returns-in_err-values : goal.returns-in_err-values
 returns-in_err-values c =
-    let l0 = opened_rule c.args.reader.now 2 (g.token_set ∷ g.values ∷ []) c.place-place.result refl c.place-place.ensures c.requires in
-    let l1 = after l0 (behind (g.values ∷ []) c.in_ok-expect.ensures.read) in
-    let p = err_from_is_err_and c.from_residual-in_err-values.result c.from_residual-in_err-values.ensures.1 in
-    rw (p.1, p.2) (fault_at c.read_values.new.reader c.in_err-values.field-0.0 (g.values ∷ []) ([]) l1 c.in_err-values.ensures)
+    let p = err_from_is_err_and c.from_residual.result c.from_residual.ensures.1 in
+    rw (p.1, p.2) (rule_fails c.args.reader.now c.read_behind.new.reader c.in_err-values.field-0.0 2 c.requires c.in_err-values.ensures.read)
 
 pub returns : goal.returns
-returns c =
-    let l0 = opened_rule c.args.reader.now 2 (g.token_set ∷ g.values ∷ []) c.place-place.result refl c.place-place.ensures c.requires in
-    let l1 = after l0 (behind (g.values ∷ []) c.in_ok-expect.ensures.read) in
-    let l2 = after l1 c.in_ok-values.ensures in
-    l2
+returns c = rule_reads 2 c.place-place.result refl c.place-place.ensures c.requires c.in_ok-values.ensures.read

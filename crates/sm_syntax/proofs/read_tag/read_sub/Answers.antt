@@ -15,7 +15,7 @@ returns-in_err-number-clause-read c =
     let l0 = opened_rule c.args.reader.now 23 (g.token_sub ∷ g.expr ∷ []) c.place-place.result refl c.place-place.ensures c.requires in
     let l1 = after l0 (behind (g.expr ∷ []) c.in_ok-expect.ensures.read) in
     let p = err_from_is_err_and c.from_residual-in_err-number.result c.from_residual-in_err-number.ensures.1 in
-    rw (p.1, p.2) (fault_at c.read_expr.new.reader c.in_err-number.field-0.0 (g.expr ∷ []) ([]) l1 c.in_err-number.ensures)
+    rw (p.1, p.2) (fault_at c.read.new.reader c.in_err-number.field-0.0 (g.expr ∷ []) ([]) l1 c.in_err-number.ensures)
 
 pub returns-clause-read : goal.returns-clause-read
 returns-clause-read c =

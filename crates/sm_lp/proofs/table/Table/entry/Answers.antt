@@ -1,6 +1,6 @@
 use Rattle.std.proofs.Common.{arith, suc, sym, ap, ◌∙◌, ℕ, List, ◌+◌, ◌*◌}
 use Rattle.sm_frac.specs.declared.fraction.Frac.{Frac}
-use Rattle.sm_lp.specs.Numbers.{number_at}
+use Rattle.sm_certificate.specs.Numbers.{number_at}
 use Rattle.sm_lp.proofs.CellLemmas.{cell_read}
 use Rattle.sm_lp.proofs.table.Table.entry.Goals as goal
 

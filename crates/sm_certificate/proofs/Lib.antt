@@ -1,0 +1,12 @@
+pub mod Totals
+pub mod Signs
+pub mod SignTests
+pub mod NumberLemmas
+pub mod FineLemmas
+pub mod SlackLemmas
+pub mod Duality
+pub mod CertificateLemmas
+pub mod PointLemmas
+pub mod CombinationLemmas
+pub mod BoundLemmas
+pub mod CheckLemmas

@@ -1,0 +1,9 @@
+pub mod Totals
+pub mod Signs
+pub mod Numbers
+pub mod Program
+pub mod Slacks
+pub mod Conditions
+pub mod Fine
+pub mod Certificate
+pub mod Checking

@@ -1,6 +1,0 @@
-use Rattle.std.proofs.Common.{◌≡◌, ◌+◌, length, drop}
-use Rattle.sm_lp.specs.First.{halves}
-use Rattle.sm_lp.proofs.first.half_rows.Given as goal
-
-abbrev pub invariant-loop-row : goal.invariant-loop-row
-invariant-loop-row l = l.count + length (halves (drop l.row-index l.rows)) ≡ length (halves l.rows)

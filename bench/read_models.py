@@ -78,8 +78,9 @@ def main():
     folder = Path(tempfile.mkdtemp(prefix="read-models-"))
     try:
         shutil.copy(TOP / "HANDLES", folder)
-        shutil.copytree(TOP / "crates" / "sm_syntax", folder / "crates" / "sm_syntax", ignore=shutil.ignore_patterns("out"))
-        (folder / "crates.txt").write_text("sm_syntax: sqlite_items thiserror\nread_bench: sm_syntax\n")
+        for name in ("sm_words", "sm_syntax"):
+            shutil.copytree(TOP / "crates" / name, folder / "crates" / name, ignore=shutil.ignore_patterns("out"))
+        (folder / "crates.txt").write_text("sm_words:\nsm_syntax: sqlite_items thiserror sm_words\nread_bench: sm_syntax\n")
         crate = folder / "crates" / "read_bench"
         (crate / "src").mkdir(parents=True)
         (crate / "src" / "main.rt").write_text(PROGRAM)

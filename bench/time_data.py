@@ -19,7 +19,7 @@ import time
 from pathlib import Path
 
 TOP = Path(__file__).resolve().parent.parent
-CRATES = ["sm_base", "sm_data"]
+CRATES = ["sm_base", "sm_words", "sm_data"]
 SIZE = 16_777_216
 REPEATS = 5
 

@@ -1,11 +1,11 @@
 -- Counts of clauses, part by part.
-use Rattle.std.proofs.Common.{◌≡◌, ◌∙◌, ap, ap₂, sym, refl, arith, ℕ, zero, suc, ◌+◌, ◌*◌, ◌<◌, ◌≤◌, Bool, true, false, not, nat_lt, List, [], ◌∷◌, ◌++◌, length, drop, get_or, add-one, drop-cons, length-append}
-use Rattle.std.specs.Prelude.{min, if◌then◌else◌}
+use Rattle.std.proofs.Common.{◌≡◌, ◌∙◌, ap, ap₂, sym, refl, arith, ℕ, ◌+◌, ◌*◌, ◌≤◌, true, false, List, [], ◌∷◌, ◌++◌, length, map, length-append}
+use Rattle.std.specs.Prelude.{min, fold}
 use Rattle.sm_flat.specs.declared.clause.Clause.{Clause}
-use Rattle.sm_clausify.specs.declared.formula.Formula.{Formula}
 use Rattle.sm_clausify.specs.declared.counts.Counts.{Counts}
-use Rattle.sm_clausify.specs.Propositions.{Proposition, Propositions, part, conjunction, disjunction, implication, equivalence, meaning, meanings}
-use Rattle.sm_clausify.specs.Clauses.{join, joined, in_turn, clauses_of, counts_of, and_counts, or_counts, flipped_counts, implied_counts, equivalent_counts, most}
+use Rattle.sm_clausify.specs.Propositions.{Proposition, Propositions, part, conjunction, disjunction, implication, equivalence, parts_of}
+use Rattle.sm_clausify.specs.Clauses.{join, joined, in_turn, clauses_of}
+use Rattle.sm_clausify.specs.Counting.{counts_of, true_counts, false_counts, and_counts, or_counts, all_counts, any_counts, implied_counts, equivalent_counts, most}
 use Rattle.sm_clausify.proofs.Joins.{length-join, implication_is, equivalence_is}
 use Rattle.sm_clausify.proofs.Caps.{cap_sum, cap_product, sum_assoc, product_assoc}
 
@@ -45,27 +45,40 @@ and_assoc a b c = ap₂ pair (sum_assoc a.plain b.plain c.plain most) (product_a
 or_assoc : (a b c : Counts) → or_counts (or_counts a b) c ≡ or_counts a (or_counts b c)
 or_assoc a b c = ap₂ pair (product_assoc a.plain b.plain c.plain most) (sum_assoc a.negated b.negated c.negated most)
 
-split : (fs : List Formula) (i : ℕ) (f : Formula) → i < length fs → f ≡ get_or fs i f → drop i fs ≡ f ∷ drop (i + 1) fs
-split fs i f lt is = rw add-one (drop-cons fs i f lt ∙ ap (λ (g : Formula). g ∷ drop (suc i) fs) (sym is))
+-- numbers that no count has to cut
+abbrev IsTold : Counts → Type 0
+IsTold c = (c.plain ≤ most) × (c.negated ≤ most)
 
--- one part more
-pub all_goes : (fs : List Formula) (i : ℕ) (f : Formula) (all new whole : Counts) → i < length fs → f ≡ get_or fs i f
-    → new ≡ and_counts all (counts_of (meaning f)) → and_counts all (counts_of (conjunction (meanings (drop i fs)))) ≡ whole
-    → and_counts new (counts_of (conjunction (meanings (drop (i + 1) fs)))) ≡ whole
-all_goes fs i f all new whole lt is is_new invariant =
-    ap (λ (c : Counts). and_counts c (counts_of (conjunction (meanings (drop (i + 1) fs))))) is_new
-    ∙ and_assoc all (counts_of (meaning f)) (counts_of (conjunction (meanings (drop (i + 1) fs))))
-    ∙ ap (and_counts all) (sym (conjunction_counts (meaning f) (meanings (drop (i + 1) fs))))
-    ∙ ap (λ (gs : List Formula). and_counts all (counts_of (conjunction (meanings gs)))) (sym (split fs i f lt is)) ∙ invariant
+-- counts of parts, after those that stand before
+all_after : (c : Counts) (ps : List Proposition) → IsTold c → fold and_counts c (map counts_of ps) ≡ and_counts c (counts_of (conjunction (parts_of ps)))
+all_after c [] told = sym (ap₂ pair (let e : min (c.plain + 0) most ≡ c.plain = omega (arith, told.0) in e) (let e : min (c.negated * 1) most ≡ c.negated = omega (arith, told.1) in e))
+all_after c (p ∷ ps) told =
+    all_after (and_counts c (counts_of p)) ps (omega arith, omega arith)
+    ∙ and_assoc c (counts_of p) (counts_of (conjunction (parts_of ps)))
+    ∙ ap (and_counts c) (sym (conjunction_counts p (parts_of ps)))
 
-pub any_goes : (fs : List Formula) (i : ℕ) (f : Formula) (any new whole : Counts) → i < length fs → f ≡ get_or fs i f
-    → new ≡ or_counts any (counts_of (meaning f)) → or_counts any (counts_of (disjunction (meanings (drop i fs)))) ≡ whole
-    → or_counts new (counts_of (disjunction (meanings (drop (i + 1) fs)))) ≡ whole
-any_goes fs i f any new whole lt is is_new invariant =
-    ap (λ (c : Counts). or_counts c (counts_of (disjunction (meanings (drop (i + 1) fs))))) is_new
-    ∙ or_assoc any (counts_of (meaning f)) (counts_of (disjunction (meanings (drop (i + 1) fs))))
-    ∙ ap (or_counts any) (sym (disjunction_counts (meaning f) (meanings (drop (i + 1) fs))))
-    ∙ ap (λ (gs : List Formula). or_counts any (counts_of (disjunction (meanings gs)))) (sym (split fs i f lt is)) ∙ invariant
+any_after : (c : Counts) (ps : List Proposition) → IsTold c → fold or_counts c (map counts_of ps) ≡ or_counts c (counts_of (disjunction (parts_of ps)))
+any_after c [] told = sym (ap₂ pair (let e : min (c.plain * 1) most ≡ c.plain = omega (arith, told.0) in e) (let e : min (c.negated + 0) most ≡ c.negated = omega (arith, told.1) in e))
+any_after c (p ∷ ps) told =
+    any_after (or_counts c (counts_of p)) ps (omega arith, omega arith)
+    ∙ or_assoc c (counts_of p) (counts_of (disjunction (parts_of ps)))
+    ∙ ap (or_counts c) (sym (disjunction_counts p (parts_of ps)))
+
+below : (n : ℕ) → min (0 + min n most) most ≡ min n most
+below n = omega arith
+
+once : (n : ℕ) → min (1 * min n most) most ≡ min n most
+once n = omega arith
+
+pub counts_of-conjunction : (ps : List Proposition) → counts_of (conjunction (parts_of ps)) ≡ all_counts (map counts_of ps)
+counts_of-conjunction ps =
+    let whole = conjunction (parts_of ps) in
+    sym (all_after true_counts ps (omega arith, omega arith) ∙ ap₂ pair (below (length (clauses_of whole false))) (once (length (clauses_of whole true))))
+
+pub counts_of-disjunction : (ps : List Proposition) → counts_of (disjunction (parts_of ps)) ≡ any_counts (map counts_of ps)
+counts_of-disjunction ps =
+    let whole = disjunction (parts_of ps) in
+    sym (any_after false_counts ps (omega arith, omega arith) ∙ ap₂ pair (once (length (clauses_of whole false))) (below (length (clauses_of whole true))))
 
 -- where the count is 0 there is none
 pub none_counted : (cs : List Clause) → capped cs ≡ 0 → cs ≡ []

@@ -1,9 +1,8 @@
 -- Joining clauses: what it is with one empty clause, that brackets don't matter, and how many there are.
-use Rattle.std.proofs.Common.{◌≡◌, ◌∙◌, ap, ap₂, sym, refl, arith, ℕ, ◌+◌, ◌*◌, Bool, true, false, not, List, [], ◌∷◌, ◌++◌, length, map, append_assoc, append-nil, length-append}
+use Rattle.std.proofs.Common.{◌≡◌, ◌∙◌, ap, ap₂, sym, refl, arith, ◌*◌, Bool, true, false, not, List, [], ◌∷◌, ◌++◌, length, map, append_assoc, append-nil, length-append}
 use Rattle.std.specs.Prelude.{if◌then◌else◌}
 use Rattle.std.proofs.lemmas.List.Concat.{flat_map-append}
 use Rattle.std.proofs.lemmas.List.{length-map}
-use Rattle.std.specs.List.{flat_map}
 use Rattle.sm_flat.specs.declared.literal.Literal.{Literal}
 use Rattle.sm_flat.specs.declared.clause.Clause.{Clause}
 use Rattle.sm_clausify.specs.Propositions.{Proposition, implication, equivalence}

@@ -2,6 +2,8 @@ pub mod Joins
 pub mod Caps
 pub mod Counting
 pub mod Views
+pub mod Chains
+pub mod Counted
 pub mod Parts
 pub mod Signs
 pub mod Satisfied

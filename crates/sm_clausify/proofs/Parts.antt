@@ -1,15 +1,19 @@
 -- The clauses of a formula, part by part.
-use Rattle.std.proofs.Common.{◌≡◌, ◌∙◌, ap, sym, refl, arith, subst, ℕ, zero, suc, ◌+◌, ◌<◌, Bool, true, false, not, nat_lt, List, [], ◌∷◌, ◌++◌, length, drop, get_or, add-one, drop-cons, ◌≤◌}
+use Rattle.std.proofs.Common.{◌≡◌, ◌∙◌, ap, sym, refl, arith, subst, ℕ, zero, suc, ◌+◌, ◌<◌, Bool, true, false, not, nat_lt, List, [], ◌∷◌, ◌++◌, length, map, drop, get_or, add-one, drop-cons, ◌≤◌}
 use Rattle.std.proofs.lemmas.List.{drop_all}
-use Rattle.std.specs.Prelude.{if◌then◌else◌, min}
+use Rattle.std.specs.Prelude.{if◌then◌else◌}
 use Rattle.sm_flat.specs.declared.literal.Literal.{Literal}
 use Rattle.sm_flat.specs.declared.clause.Clause.{Clause}
 use Rattle.sm_clausify.specs.declared.formula.Formula.{Formula}
 use Rattle.sm_clausify.specs.declared.counts.Counts.{Counts}
 use Rattle.sm_clausify.specs.Propositions.{Proposition, implication, equivalence, meaning, meanings, EachLiteral, EachLiteralOfAll}
-use Rattle.sm_clausify.specs.Clauses.{join, joined, clauses_of, counts_of, implied_counts, most}
+use Rattle.sm_clausify.specs.Clauses.{join, joined, clauses_of}
+use Rattle.sm_clausify.specs.Counting.{counts_of, implied_counts}
+use Rattle.sm_clausify.specs.Tallies.{tally_of}
+use Rattle.sm_clausify.specs.declared.tally.Tally.{Tally}
 use Rattle.sm_clausify.proofs.Joins.{join_assoc, join-unit_right, implication_is, equivalence_is}
-use Rattle.sm_clausify.proofs.Counting.{implication_counts, none_counted}
+use Rattle.sm_clausify.proofs.Counting.{implication_counts}
+use Rattle.sm_clausify.proofs.Counted.{count_at, none_at}
 
 -- what holds of each literal of the parts holds of each literal of one of them
 pub each_at : (P : Literal → Type 0) (fs : List Formula) (i : ℕ) (f : Formula) → i < length fs → f ≡ get_or fs i f → EachLiteralOfAll P (meanings fs) → EachLiteral P (meaning f)
@@ -32,14 +36,16 @@ pub join_ends : (fs : List Formula) (i : ℕ) (negated : Bool) (clauses whole : 
 join_ends fs i negated clauses whole past invariant =
     sym (join-unit_right clauses) ∙ ap (λ (gs : List Formula). join clauses (joined (meanings gs) negated)) (sym (drop_all i fs past)) ∙ invariant
 
+-- the tally of one of the parts
+pub tally_at : (fs : List Formula) (ts : List Tally) (i : ℕ) (f : Formula) (t : Tally) → i < length fs → f ≡ get_or fs i f → t ≡ get_or ts i t → ts ≡ map tally_of fs → t ≡ tally_of f
+tally_at fs ts i f t lt is at same = within fs i lt is (at ∙ ap (λ (us : List Tally). get_or us i t) same)
+  where
+    within : (gs : List Formula) (k : ℕ) → k < length gs → f ≡ get_or gs k f → t ≡ get_or (map tally_of gs) k t → t ≡ tally_of f
+    within [] k below here there = absurd (omega arith)
+    within (g ∷ gs) zero below here there = there ∙ ap tally_of (sym here)
+    within (g ∷ gs) (suc k) below here there = within gs k (omega arith) here there
+
 -- half of an equivalence, built where it has clauses
-abbrev pub count_at : Counts → Bool → ℕ
-count_at c negated = if negated then c.negated else c.plain
-
-none_at : (p : Proposition) (negated : Bool) → nat_lt 0 (count_at (counts_of p) negated) ≡ false → clauses_of p negated ≡ []
-none_at p true h = none_counted (clauses_of p true) (grind arith)
-none_at p false h = none_counted (clauses_of p false) (grind arith)
-
 of_nothing : (negated : Bool) → (if negated then [] ++ [] else join [] []) ≡ []
 of_nothing true = refl
 of_nothing false = refl
@@ -51,7 +57,10 @@ pub half_is : (p q : Proposition) (negated needed : Bool) (a b half : List Claus
 half_is p q negated true a b half why is_a is_b is = is ∙ rw (is_a, is_b) (sym (implication_is p q negated))
 half_is p q negated false a b half why is_a is_b is =
     is ∙ rw (is_a, is_b) (of_nothing negated)
-    ∙ sym (none_at (implication p q) negated (ap (λ (c : Counts). nat_lt 0 (count_at c negated)) (sym (implication_counts p q)) ∙ sym why))
+    ∙ sym (none_at (implication p q) negated (none (count_at (counts_of (implication p q)) negated) (ap (λ (c : Counts). nat_lt 0 (count_at c negated)) (sym (implication_counts p q)) ∙ sym why)))
+  where
+    none : (n : ℕ) → nat_lt 0 n ≡ false → n ≡ 0
+    none n h = grind arith
 
 pub halves_are : (p q : Proposition) (negated : Bool) (forth back whole : List Clause)
     → forth ≡ clauses_of (implication p q) negated → back ≡ clauses_of (implication q p) negated

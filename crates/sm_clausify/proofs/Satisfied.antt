@@ -1,7 +1,6 @@
 -- At whole values the clauses of a formula are satisfied exactly where the formula holds.
-use Rattle.std.proofs.Common.{◌≡◌, ◌∙◌, ap, ap₂, sym, refl, Bool, true, false, not, ◌&&◌, ◌||◌, List, [], ◌∷◌, ◌++◌, map}
+use Rattle.std.proofs.Common.{◌≡◌, ◌∙◌, ap, ap₂, refl, Bool, true, false, not, ◌&&◌, ◌||◌, List, [], ◌∷◌, ◌++◌, map}
 use Rattle.std.specs.Prelude.{pos, ◌<ℤ◌, if◌then◌else◌}
-use Rattle.std.specs.List.{list_all, list_any}
 use Rattle.std.proofs.lemmas.List.Folds.{list_all-append, list_any-append}
 use Rattle.sm_flat.specs.declared.literal.Literal.{Literal}
 use Rattle.sm_flat.specs.declared.clause.Clause.{Clause}

@@ -1,11 +1,10 @@
 -- The clauses of a formula: negations go down to the literals, those of `and` follow each other, and those of
 -- `or` are joined, each of the first part with each of the rest.
-use Rattle.std.specs.Prelude.{ℕ, ◌++◌, ◌+◌, ◌*◌, min, length, Bool, true, false, not, if◌then◌else◌, List, [], ◌∷◌, map}
+use Rattle.std.specs.Prelude.{◌++◌, Bool, not, if◌then◌else◌, List, [], ◌∷◌, map}
 use Rattle.std.specs.List.{flat_map}
 use Rattle.sm_flat.specs.Literals.{complement}
 use Rattle.sm_flat.specs.declared.literal.Literal.{Literal}
 use Rattle.sm_flat.specs.declared.clause.Clause.{Clause}
-use Rattle.sm_clausify.specs.declared.counts.Counts.{Counts}
 use Rattle.sm_clausify.specs.Propositions.{Proposition, literal, negation, conjunction, disjunction, Propositions, no_parts, part}
 
 -- the literal, or its complement
@@ -40,29 +39,3 @@ abbrev mutual
   pub joined : Propositions → Bool → List Clause
   joined no_parts negated = empty_clause ∷ []
   joined (part p ps) negated = join (clauses_of p negated) (joined ps negated)
-
--- the greatest number that a count tells
-abbrev pub most : ℕ
-most = 18446744073709551615
-
--- how many clauses a formula has, and how many its negation
-abbrev pub counts_of : Proposition → Counts
-counts_of p = record { plain = min (length (clauses_of p false)) most; negated = min (length (clauses_of p true)) most }
-
--- those of a negation
-abbrev pub flipped_counts : Counts → Counts
-flipped_counts c = record { plain = c.negated; negated = c.plain }
-
--- counts add up for `and`, and multiply for its negation
-abbrev pub and_counts : Counts → Counts → Counts
-and_counts c d = record { plain = min (c.plain + d.plain) most; negated = min (c.negated * d.negated) most }
-
--- they multiply for `or`, and add up for its negation
-abbrev pub or_counts : Counts → Counts → Counts
-or_counts c d = record { plain = min (c.plain * d.plain) most; negated = min (c.negated + d.negated) most }
-
-abbrev pub implied_counts : Counts → Counts → Counts
-implied_counts c d = or_counts (flipped_counts c) d
-
-abbrev pub equivalent_counts : Counts → Counts → Counts
-equivalent_counts c d = and_counts (implied_counts c d) (implied_counts d c)

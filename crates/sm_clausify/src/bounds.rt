@@ -3,6 +3,7 @@ ghost use Rattle.std.specs.Prelude.{◌≡◌, ◌↔◌, IsTrue};
 ghost use Rattle.sm_clausify.specs.Propositions.{meaning, meanings, EachLiteral, EachLiteralOfAll, HasSmallBound};
 
 use crate::formula::Formula;
+use crate::nots::behind_nots;
 use sm_flat::Literal;
 
 /// Whether the literal's bound is below 2^62 in absolute value.
@@ -17,9 +18,10 @@ fn is_small(literal: Literal) -> bool
 pub fn has_small_bounds(formula: &Formula) -> bool
     ensures { IsTrue result ↔ EachLiteral HasSmallBound (meaning formula.now) }
 {
-    match formula {
+    let (inner, _) = behind_nots(formula);
+    match inner {
         Formula::Lit(literal) => is_small(*literal),
-        Formula::Not(inner) => has_small_bounds(inner.get()),
+        Formula::Not(_) => unreachable!(),
         Formula::And(parts) => all_have_small_bounds(parts.as_slice()),
         Formula::Or(parts) => all_have_small_bounds(parts.as_slice()),
         Formula::Implies(first, second) => {

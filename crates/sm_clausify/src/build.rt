@@ -1,13 +1,15 @@
 //! The clauses of a formula, built from those of its parts.
 //!
-//! A part without a clause leaves an `or` without one, however many the other parts have. So each formula is counted
-//! before any part of it is built, and no part is built of what has no clause.
-ghost use Rattle.std.specs.Prelude.{◌≡◌, ◌++◌, ◌∷◌, [], IfOk, map, if◌then◌else◌};
+//! A part without a clause leaves an `or` without one, however many the other parts have. So no part is built of what
+//! has no clause, by the counts of all parts, which were found before.
+ghost use Rattle.std.specs.Prelude.{◌≡◌, ◌++◌, ◌∷◌, [], false, IfOk, map, if◌then◌else◌};
 ghost use Rattle.sm_clausify.specs.Propositions.{meaning, meanings, EachLiteral, EachLiteralOfAll, HasSmallBound};
 ghost use Rattle.sm_clausify.specs.Clauses.{signed, beside, join, clauses_of, in_turn, joined};
+ghost use Rattle.sm_clausify.specs.Tallies.{is_not, parts_in, tally_of};
 
-use crate::counts::{count, implied};
 use crate::formula::Formula;
+use crate::nots::{behind_nots, turned};
+use crate::tally::Tally;
 use sm_flat::{Clause, Literal};
 use sqlite_items::Items;
 use std::alloc::{AllocError, Global};
@@ -35,37 +37,62 @@ fn unit(alloc: Global, literal: Literal) -> Result<Vec<Clause>, AllocError>
     Ok(clauses)
 }
 
-/// The clauses of a formula, or of its negation. What has none is not gone into.
+/// The clauses of a formula, or of its negation, by the counts of its parts. What has none is not gone into.
 #[cycle(building)]
 pub(crate) fn clauses_at(
     alloc: Global,
     formula: &Formula,
+    tally: &Tally,
     negated: bool,
 ) -> Result<Vec<Clause>, AllocError>
-    requires { EachLiteral HasSmallBound (meaning formula.now) }
+    requires small { EachLiteral HasSmallBound (meaning formula.now) }
+    requires tally { tally.now ≡ tally_of formula.now }
     ensures { IfOk result (λ v. v.items ≡ clauses_of (meaning formula.now) negated) }
 {
-    if count(formula).get(negated) == 0 {
+    if tally.counts.get(negated) == 0 {
         return Ok(Vec::new(alloc));
     }
+    let (inner, is_odd) = behind_nots(formula);
+    clauses_behind(
+        alloc,
+        inner,
+        tally.parts.as_slice(),
+        turned(is_odd, negated),
+    )
+}
+
+/// The same of a formula that begins with no `not`.
+#[cycle(building)]
+fn clauses_behind(
+    alloc: Global,
+    formula: &Formula,
+    tallies: &[Tally],
+    negated: bool,
+) -> Result<Vec<Clause>, AllocError>
+    requires small { EachLiteral HasSmallBound (meaning formula.now) }
+    requires tallies { tallies.now ≡ parts_in (tally_of formula.now) }
+    requires other { is_not formula.now ≡ false }
+    ensures { IfOk result (λ v. v.items ≡ clauses_of (meaning formula.now) negated) }
+{
     match formula {
         Formula::Lit(literal) => unit(alloc, signed(*literal, negated)),
-        Formula::Not(inner) => clauses_at(alloc, inner.get(), !negated),
-        Formula::And(parts) => gathered(alloc, parts.as_slice(), !negated, negated),
-        Formula::Or(parts) => gathered(alloc, parts.as_slice(), negated, negated),
+        Formula::Not(_) => unreachable!(),
+        Formula::And(parts) => gathered(alloc, parts.as_slice(), tallies, !negated, negated),
+        Formula::Or(parts) => gathered(alloc, parts.as_slice(), tallies, negated, negated),
         Formula::Implies(first, second) => {
-            let first = clauses_at(alloc, first.get(), !negated)?;
-            let second = clauses_at(alloc, second.get(), negated)?;
+            let first = clauses_at(alloc, first.get(), &tallies[0], !negated)?;
+            let second = clauses_at(alloc, second.get(), &tallies[1], negated)?;
             together(alloc, first, second, negated)
         }
         Formula::Iff(first, second) => {
             let (first, second) = (first.get(), second.get());
-            let forth = implied(count(first), count(second)).get(negated) > 0;
-            let back = implied(count(second), count(first)).get(negated) > 0;
-            let a = clauses_if(alloc, first, !negated, forth)?;
-            let b = clauses_if(alloc, second, negated, forth)?;
-            let c = clauses_if(alloc, second, !negated, back)?;
-            let d = clauses_if(alloc, first, negated, back)?;
+            let (tally, other) = (&tallies[0], &tallies[1]);
+            let forth = tally.counts.implies(other.counts).get(negated) > 0;
+            let back = other.counts.implies(tally.counts).get(negated) > 0;
+            let a = clauses_if(alloc, first, tally, !negated, forth)?;
+            let b = clauses_if(alloc, second, other, negated, forth)?;
+            let c = clauses_if(alloc, second, other, !negated, back)?;
+            let d = clauses_if(alloc, first, tally, negated, back)?;
             let forth = together(alloc, a, b, negated)?;
             let back = together(alloc, c, d, negated)?;
             together(alloc, forth, back, !negated)
@@ -78,14 +105,16 @@ pub(crate) fn clauses_at(
 fn clauses_if(
     alloc: Global,
     formula: &Formula,
+    tally: &Tally,
     negated: bool,
     is_needed: bool,
 ) -> Result<Vec<Clause>, AllocError>
-    requires { EachLiteral HasSmallBound (meaning formula.now) }
+    requires small { EachLiteral HasSmallBound (meaning formula.now) }
+    requires tally { tally.now ≡ tally_of formula.now }
     ensures { IfOk result (λ v. v.items ≡ if is_needed then clauses_of (meaning formula.now) negated else []) }
 {
     if is_needed {
-        clauses_at(alloc, formula, negated)
+        clauses_at(alloc, formula, tally, negated)
     } else {
         Ok(Vec::new(alloc))
     }
@@ -96,28 +125,36 @@ fn clauses_if(
 fn gathered(
     alloc: Global,
     parts: &[Formula],
+    tallies: &[Tally],
     is_and: bool,
     negated: bool,
 ) -> Result<Vec<Clause>, AllocError>
-    requires { EachLiteralOfAll HasSmallBound (meanings parts.now) }
+    requires small { EachLiteralOfAll HasSmallBound (meanings parts.now) }
+    requires tallies { tallies.now ≡ map tally_of parts.now }
     ensures { IfOk result (λ v. v.items ≡ if is_and then in_turn (meanings parts.now) negated else joined (meanings parts.now) negated) }
 {
     if is_and {
-        in_turn(alloc, parts, negated)
+        in_turn(alloc, parts, tallies, negated)
     } else {
-        joined(alloc, parts, negated)
+        joined(alloc, parts, tallies, negated)
     }
 }
 
 /// The clauses of each part, or of its negation, one after another.
 #[cycle(building)]
-fn in_turn(alloc: Global, parts: &[Formula], negated: bool) -> Result<Vec<Clause>, AllocError>
-    requires { EachLiteralOfAll HasSmallBound (meanings parts.now) }
+fn in_turn(
+    alloc: Global,
+    parts: &[Formula],
+    tallies: &[Tally],
+    negated: bool,
+) -> Result<Vec<Clause>, AllocError>
+    requires small { EachLiteralOfAll HasSmallBound (meanings parts.now) }
+    requires tallies { tallies.now ≡ map tally_of parts.now }
     ensures { IfOk result (λ v. v.items ≡ in_turn (meanings parts.now) negated) }
 {
     let mut clauses = Vec::new(alloc);
-    for part in parts {
-        let mut more = clauses_at(alloc, part, negated)?;
+    for i in 0..parts.len() {
+        let mut more = clauses_at(alloc, &parts[i], &tallies[i], negated)?;
         clauses.append(&mut more)?;
     }
     Ok(clauses)
@@ -125,16 +162,22 @@ fn in_turn(alloc: Global, parts: &[Formula], negated: bool) -> Result<Vec<Clause
 
 /// The clauses of the parts, or of their negations, each joined with each.
 #[cycle(building)]
-fn joined(alloc: Global, parts: &[Formula], negated: bool) -> Result<Vec<Clause>, AllocError>
-    requires { EachLiteralOfAll HasSmallBound (meanings parts.now) }
+fn joined(
+    alloc: Global,
+    parts: &[Formula],
+    tallies: &[Tally],
+    negated: bool,
+) -> Result<Vec<Clause>, AllocError>
+    requires small { EachLiteralOfAll HasSmallBound (meanings parts.now) }
+    requires tallies { tallies.now ≡ map tally_of parts.now }
     ensures { IfOk result (λ v. v.items ≡ joined (meanings parts.now) negated) }
 {
     let mut clauses = Vec::new(alloc);
     clauses.push(Clause {
         literals: Items::new(alloc),
     })?;
-    for part in parts {
-        let others = clauses_at(alloc, part, negated)?;
+    for i in 0..parts.len() {
+        let others = clauses_at(alloc, &parts[i], &tallies[i], negated)?;
         clauses = product(alloc, clauses, others.as_slice())?;
     }
     Ok(clauses)

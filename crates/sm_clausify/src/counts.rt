@@ -1,19 +1,54 @@
-//! How many clauses a formula has. Counts add up for `and` and multiply for `or`, and those of a formula and of its
-//! negation are found together, so that each part is visited once.
+//! How many clauses a formula has, from how many its parts have. Counts add up for `and` and multiply for `or`, and those
+//! of a formula and of its negation are found together, so that each part is counted once.
 ghost use Rattle.std.specs.Prelude.{◌≡◌, if◌then◌else◌};
-ghost use Rattle.sm_clausify.specs.Propositions.{meaning, meanings, conjunction, disjunction};
-ghost use Rattle.sm_clausify.specs.Clauses.{counts_of, flipped_counts, and_counts, or_counts, implied_counts, equivalent_counts};
+ghost use Rattle.sm_clausify.specs.Counting.{literal_counts, true_counts, false_counts, flipped_counts, and_counts, or_counts, implied_counts, equivalent_counts};
 
-use crate::formula::Formula;
-
-/// How many clauses a formula and its negation have; 2^64 - 1 stands for more than that.
-#[derive(Clone, Copy, Debug, PartialEq, Eq)]
-pub(crate) struct Counts {
+/// How many clauses a formula and its negation have; 2^64 - 1 stands for that many and for more. What is made of parts
+/// is counted before it is built, and [`counts_compose`](crate::counts_compose) says that the count is right.
+#[derive(Clone, Copy)]
+pub struct Counts {
     pub plain: u64,
     pub negated: u64,
 }
 
 impl Counts {
+    /// The counts of a literal.
+    pub fn literal() -> Counts
+        ensures { result ≡ literal_counts }
+    {
+        Counts {
+            plain: 1,
+            negated: 1,
+        }
+    }
+
+    /// The counts of `all` over nothing, from which [`and`](Counts::and) goes on.
+    pub fn all_of_nothing() -> Counts
+        ensures { result ≡ true_counts }
+    {
+        Counts {
+            plain: 0,
+            negated: 1,
+        }
+    }
+
+    /// The counts of `any` over nothing, from which [`or`](Counts::or) goes on.
+    pub fn any_of_nothing() -> Counts
+        ensures { result ≡ false_counts }
+    {
+        Counts {
+            plain: 1,
+            negated: 0,
+        }
+    }
+
+    /// How many clauses the formula has.
+    pub fn clauses(self) -> u64
+        ensures { result ≡ self.plain }
+    {
+        self.plain
+    }
+
     /// The count of the formula, or of its negation.
     pub(crate) fn get(self, negated: bool) -> u64
         ensures { result ≡ if negated then self.negated else self.plain }
@@ -22,7 +57,7 @@ impl Counts {
     }
 
     /// The counts of the negation.
-    fn flipped(self) -> Counts
+    pub fn flipped(self) -> Counts
         ensures { result ≡ flipped_counts self }
     {
         Counts {
@@ -32,7 +67,7 @@ impl Counts {
     }
 
     /// The counts of this formula and that one together.
-    fn and(self, other: Counts) -> Counts
+    pub fn and(self, other: Counts) -> Counts
         ensures { result ≡ and_counts self other }
     {
         Counts {
@@ -42,7 +77,7 @@ impl Counts {
     }
 
     /// The counts of this formula or that one.
-    fn or(self, other: Counts) -> Counts
+    pub fn or(self, other: Counts) -> Counts
         ensures { result ≡ or_counts self other }
     {
         Counts {
@@ -50,64 +85,18 @@ impl Counts {
             negated: self.negated.saturating_add(other.negated),
         }
     }
-}
 
-/// The counts of an implication between two formulas.
-pub(crate) fn implied(first: Counts, second: Counts) -> Counts
-    ensures { result ≡ implied_counts first second }
-{
-    first.flipped().or(second)
-}
-
-/// The counts of an equivalence of two formulas.
-fn equivalent(first: Counts, second: Counts) -> Counts
-    ensures { result ≡ equivalent_counts first second }
-{
-    implied(first, second).and(implied(second, first))
-}
-
-/// The counts of a formula.
-#[cycle(counting)]
-pub(crate) fn count(formula: &Formula) -> Counts
-    ensures { result ≡ counts_of (meaning formula.now) }
-{
-    match formula {
-        Formula::Lit(_) => Counts {
-            plain: 1,
-            negated: 1,
-        },
-        Formula::Not(inner) => count(inner.get()).flipped(),
-        Formula::And(parts) => count_all(parts.as_slice()),
-        Formula::Or(parts) => count_any(parts.as_slice()),
-        Formula::Implies(first, second) => implied(count(first.get()), count(second.get())),
-        Formula::Iff(first, second) => equivalent(count(first.get()), count(second.get())),
+    /// The counts of an implication: this formula implies that one.
+    pub fn implies(self, other: Counts) -> Counts
+        ensures { result ≡ implied_counts self other }
+    {
+        self.flipped().or(other)
     }
-}
 
-#[cycle(counting)]
-fn count_all(parts: &[Formula]) -> Counts
-    ensures { result ≡ counts_of (conjunction (meanings parts.now)) }
-{
-    let mut all = Counts {
-        plain: 0,
-        negated: 1,
-    };
-    for part in parts {
-        all = all.and(count(part));
+    /// The counts of an equivalence of the two formulas.
+    pub fn iff(self, other: Counts) -> Counts
+        ensures { result ≡ equivalent_counts self other }
+    {
+        self.implies(other).and(other.implies(self))
     }
-    all
-}
-
-#[cycle(counting)]
-fn count_any(parts: &[Formula]) -> Counts
-    ensures { result ≡ counts_of (disjunction (meanings parts.now)) }
-{
-    let mut any = Counts {
-        plain: 1,
-        negated: 0,
-    };
-    for part in parts {
-        any = any.or(count(part));
-    }
-    any
 }

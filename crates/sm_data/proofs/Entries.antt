@@ -1,25 +1,23 @@
 -- Tables by name: what stands at a name, and that a new name goes last.
-use Rattle.std.proofs.Common.{◌≡◌, ◌∙◌, ap, sym, refl, subst, arith, inl, inr, ◌⊎◌, ◌||◌, ℕ, ℤ, ◌<◌, Bool, true, false, List, [], ◌∷◌, ◌++◌, map, length, take, is_some, String, string_bytes, codes, Result, Ok, Err}
+use Rattle.std.proofs.Common.{◌≡◌, ap, refl, subst, arith, ◌||◌, ℕ, ◌<◌, Bool, true, false, List, [], ◌∷◌, ◌++◌, map, length, is_some, String, string_bytes, codes, Result, Ok, Err}
 use Rattle.std.specs.Prelude.{if◌then◌else◌, Option, Some, None}
 use Rattle.std.specs.Map.{lookup}
 use Rattle.std.specs.Str.{bytes_eq}
 use Rattle.std.specs.String.{string_eq}
 use Rattle.std.proofs.lemmas.List.{map-append}
 use Rattle.std.specs.declared.alloc.Global.{Global}
-use Rattle.toml.specs.Data.{Data, Members}
-use Rattle.toml.specs.View.{members_view, view}
+use Rattle.toml.specs.Data.{Data}
 use Rattle.toml.specs.declared.value.Value.{Value}
 use Rattle.indexmap.specs.IndexMap.{insert_entry}
 use Rattle.sm_data.specs.declared.table.Table.{Table}
-use Rattle.sm_data.specs.declared.table.Table.TheVariants as table
 use Rattle.sm_data.specs.declared.refusal.DataCause.TheVariants as cause
 use Rattle.sm_data.specs.declared.refusal.DataRefusal.{DataRefusal}
 use Rattle.sm_data.specs.declared.refusal.DataRefusal.TheVariants as refusal
-use Rattle.sm_data.specs.Names.{is_name, file_name, stem_of}
-use Rattle.sm_data.specs.Numbers.{◌>>=◌, Fails, bad, number_of, each}
-use Rattle.sm_data.specs.Documents.{Entry, IsDocument, is_known, table_in, entry_in, with_entry, entries_with}
-use Rattle.sm_data.specs.Records.{Row, AreRows, AreUneven, ReadsRows}
-use Rattle.sm_data.specs.Files.{entry_view, table_of, Answers, DocumentComesTo, NamedComesTo, RecordsComeTo, FileComesTo}
+use Rattle.sm_words.specs.Names.{is_name}
+use Rattle.sm_data.specs.Paths.{file_name, stem_of}
+use Rattle.sm_data.specs.Numbers.{◌>>=◌, Fails, bad}
+use Rattle.sm_data.specs.Documents.{Entry, is_known, table_in, entry_in, with_entry}
+use Rattle.sm_data.specs.Files.{entry_view, table_of, Answers, NamedComesTo, RecordsComeTo, FileComesTo}
 use Rattle.sm_data.proofs.Each.{fails-bind}
 
 looked_by : (b : Bool) (t : Table) (o : Option Table) (d : Bool) → is_some o ≡ d → is_some (if b then Some t else o) ≡ (b || d)
@@ -60,66 +58,9 @@ added_is name d known t named new h = rw (named, new) (ap (λ (r : Result Table 
 pub view_push : (es : List (String Global × Table)) (k : String Global) (t : Table) → map entry_view (es ++ (k, t) ∷ []) ≡ map entry_view es ++ (string_bytes k, t) ∷ []
 view_push es k t = map-append entry_view es ((k, t) ∷ [])
 
--- one member more
-pub member_goes : (k : String Global) (v : Value) (ms rest : List (String Global × Value)) (known new : List Entry) (whole : Result (List Entry) DataRefusal)
-    → ms ≡ (k, v) ∷ rest → entries_with known (members_view ms) ≡ whole → with_entry known (entry_in (string_bytes k) (view v) known) ≡ Ok new
-    → entries_with new (members_view rest) ≡ whole
-member_goes k v ms rest known new whole is invariant found =
-    ap (λ (r : Result (List Entry) DataRefusal). r >>= λ es. entries_with es (members_view rest)) (sym found)
-    ∙ ap (λ (xs : List (String Global × Value)). entries_with known (members_view xs)) (sym is) ∙ invariant
-
-pub member_fails : (k : String Global) (v : Value) (ms rest : List (String Global × Value)) (known : List Entry) (e : DataRefusal) (whole : Result (List Entry) DataRefusal)
-    → ms ≡ (k, v) ∷ rest → entries_with known (members_view ms) ≡ whole → Fails e (with_entry known (entry_in (string_bytes k) (view v) known)) → Fails e whole
-member_fails k v ms rest known e whole is invariant found =
-    subst (Fails e) (ap (λ (xs : List (String Global × Value)). entries_with known (members_view xs)) (sym is) ∙ invariant)
-    (fails-bind e (with_entry known (entry_in (string_bytes k) (view v) known)) (λ es. entries_with es (members_view rest)) found)
-
-pub members_end : (ms : List (String Global × Value)) (known : List Entry) (whole : Result (List Entry) DataRefusal) → ms ≡ [] → entries_with known (members_view ms) ≡ whole → whole ≡ Ok known
-members_end ms known whole is invariant = sym invariant ∙ ap (λ (xs : List (String Global × Value)). entries_with known (members_view xs)) is
-
 pub none_left : (ms : List (String Global × Value)) → (0 < length ms → false ≡ true) → ms ≡ []
 none_left [] h = refl
 none_left (m ∷ ms) h = let some : 0 < length (m ∷ ms) = omega arith in let wrong : false ≡ true = h some in cc
-
--- what a file comes to
-pub document_refused : (bytes : List ℕ) (known : List Entry) (ms : Members) (e : DataRefusal) (after : List Entry) → IsDocument bytes ms → Fails e (entries_with known ms)
-    → Answers {X = Unit {0}} (DocumentComesTo bytes known) after (Err e)
-document_refused bytes known ms (refusal.BadData c) after is h = inr (ms, is, sym h)
-document_refused bytes known ms (refusal.Limit w n b) after is h = inr (ms, is, sym h)
-document_refused bytes known ms refusal.OutOfMemory after is h = tt
-
-pub no_document : (bytes : List ℕ) (known : List Entry) (e : DataRefusal) (after : List Entry) → (e ≡ bad cause.Toml) ⊎ (e ≡ refusal.OutOfMemory)
-    → (e ≡ bad cause.Toml → (ms : Members) → IsDocument bytes ms → ⊥) → Answers {X = Unit {0}} (DocumentComesTo bytes known) after (Err e)
-no_document bytes known e after either none = elim either [
-  | inl toml ↦ subst (λ (x : DataRefusal). Answers {X = Unit {0}} (DocumentComesTo bytes known) after (Err x)) (sym toml) (inl (refl, none toml))
-  | inr memory ↦ subst (λ (x : DataRefusal). Answers {X = Unit {0}} (DocumentComesTo bytes known) after (Err x)) (sym memory) tt
-]
-
-pub uneven_rows : (name bytes : List ℕ) (known : List Entry) (e : DataRefusal) (after : List Entry) → (e ≡ bad cause.Csv) ⊎ (e ≡ refusal.OutOfMemory)
-    → (e ≡ bad cause.Csv → AreUneven bytes) → Answers {X = Unit {0}} (RecordsComeTo name bytes known) after (Err e)
-uneven_rows name bytes known e after either uneven = elim either [
-  | inl csv ↦ subst (λ (x : DataRefusal). Answers {X = Unit {0}} (RecordsComeTo name bytes known) after (Err x)) (sym csv) (inl (refl, uneven csv))
-  | inr memory ↦ subst (λ (x : DataRefusal). Answers {X = Unit {0}} (RecordsComeTo name bytes known) after (Err x)) (sym memory) tt
-]
-
-pub rows_refused : (name bytes : List ℕ) (known : List Entry) (rows : List Row) (e : DataRefusal) (after : List Entry) → AreRows bytes rows
-    → ((reads : List (List (Option ℤ))) → ReadsRows rows reads → Fails e (each (each number_of) reads)) → Answers {X = Unit {0}} (RecordsComeTo name bytes known) after (Err e)
-rows_refused name bytes known rows (refusal.BadData c) after are h = inr (rows, are, λ reads r. sym (ap (λ (x : Result (List (List ℤ)) DataRefusal). x >>= λ grid. Ok (known ++ (name, table.Grid grid) ∷ [])) (h reads r)))
-rows_refused name bytes known rows (refusal.Limit w n b) after are h = inr (rows, are, λ reads r. sym (ap (λ (x : Result (List (List ℤ)) DataRefusal). x >>= λ grid. Ok (known ++ (name, table.Grid grid) ∷ [])) (h reads r)))
-rows_refused name bytes known rows refusal.OutOfMemory after are h = tt
-
-pub rows_added : (name bytes : List ℕ) (known : List Entry) (rows : List Row) (grid : List (List ℤ)) (after : List Entry) → AreRows bytes rows
-    → ((reads : List (List (Option ℤ))) → ReadsRows rows reads → each (each number_of) reads ≡ Ok grid) → after ≡ known ++ (name, table.Grid grid) ∷ []
-    → RecordsComeTo name bytes known (Ok after)
-rows_added name bytes known rows grid after are h is =
-    inr (rows, are, λ reads r. ap (λ (x : List Entry). Ok x) is ∙ sym (ap (λ (x : Result (List (List ℤ)) DataRefusal). x >>= λ g. Ok (known ++ (name, table.Grid g) ∷ [])) (h reads r)))
-
-pub taken_back : {X : Type 0} (n : ℕ) (xs ys more : List X) → n ≡ length xs → ys ≡ xs ++ more → take n ys ≡ xs
-taken_back n xs ys more long is = rw (is, long) (front xs more)
-  where
-    front : {X : Type 0} (cs bs : List X) → take (length cs) (cs ++ bs) ≡ cs
-    front [] bs = refl
-    front (a ∷ cs) bs = ap (λ (ds : List _). a ∷ ds) (front cs bs)
 
 -- an answer of one meaning is one of another that follows from it
 pub answers_also : {X : Type 0} (P Q : Result (List Entry) DataRefusal → Type 0) (after : List Entry) (r : Result X DataRefusal)
@@ -136,7 +77,3 @@ named_records name stem bytes known found is named new h = rw (named, new) (subs
 pub csv_file : (path bytes stem : List ℕ) (known : List Entry) (found : Result (List Entry) DataRefusal) → stem_of (codes ".toml") (file_name path) ≡ None → stem_of (codes ".csv") (file_name path) ≡ Some stem
     → NamedComesTo (is_name stem) (is_known stem known) stem bytes known found → FileComesTo path bytes known found
 csv_file path bytes stem known found toml csv h = rw (toml, csv) h
-
-pub toml_file : (path bytes stem : List ℕ) (known : List Entry) (found : Result (List Entry) DataRefusal) → stem_of (codes ".toml") (file_name path) ≡ Some stem
-    → DocumentComesTo bytes known found → FileComesTo path bytes known found
-toml_file path bytes stem known found toml h = rw toml h

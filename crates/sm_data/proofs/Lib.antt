@@ -2,5 +2,5 @@ pub mod Each
 pub mod Arrays
 pub mod Widths
 pub mod Readings
-pub mod Texts
 pub mod Entries
+pub mod Outcomes

@@ -10,36 +10,36 @@ use Rattle.csv.specs.declared.parser.State.TheVariants as st
 use Rattle.csv.specs.declared.reader.Reader.{Reader}
 use Rattle.csv.specs.declared.error.ErrorKind.{ErrorKind}
 use Rattle.csv.specs.declared.error.ErrorKind.TheVariants as kind
-use Rattle.sm_data.specs.Records.{AreUneven, HaveWidth, Row, refusal_by}
+use Rattle.sm_data.specs.Records.{AreUneven, HaveWidth, Fields, refusal_by}
 use Rattle.sm_data.specs.declared.refusal.DataCause.TheVariants as cause
 use Rattle.sm_data.specs.Numbers.{bad}
 
-push : (P : Row → Type 0) (xs : List Row) (x : Row) → AllByRecursion P xs → P x → AllByRecursion P (xs ++ x ∷ [])
+push : (P : Fields → Type 0) (xs : List Fields) (x : Fields) → AllByRecursion P xs → P x → AllByRecursion P (xs ++ x ∷ [])
 push P [] x h p = (p, tt)
 push P (y ∷ ys) x h p = (h.0, push P ys x h.1 p)
 
 -- a row more, of the length that was expected
-pub width_more : (rows : List Row) (old new : Option ℕ) (f : Row) → HaveWidth rows old → IfSome old (λ e. new ≡ Some e) → new ≡ Some (length f) → HaveWidth (rows ++ f ∷ []) new
+pub width_more : (rows : List Fields) (old new : Option ℕ) (f : Fields) → HaveWidth rows old → IfSome old (λ e. new ≡ Some e) → new ≡ Some (length f) → HaveWidth (rows ++ f ∷ []) new
 width_more [] old new f h kept is = (is, tt)
 width_more (r ∷ rs) old new f h kept is =
     let same : new ≡ Some (length r) = rw h.0 at kept in
     (same, push (λ x. length x ≡ length r) rs f h.1 (let e : Some (length f) ≡ Some (length r) = sym is ∙ same in cc))
 
-next_some : (o : Option Read) (f : Row) (s : State) (rest : List ℕ) → NextIs o true f s rest → (p : Read) × (o ≡ Some p) × (f ≡ p.0)
+next_some : (o : Option Read) (f : Fields) (s : State) (rest : List ℕ) → NextIs o true f s rest → (p : Read) × (o ≡ Some p) × (f ≡ p.0)
 next_some None f s rest n = let bad : true ≡ false = n in cc
 next_some (Some p) f s rest n = (p, refl, n.1)
 
 -- a row that was taken is reached
-took_more : (cfg : Config) (s0 a b : State) (xs y : List ℕ) (rows : List Row) (f : Row) (after : Option (List ℕ))
+took_more : (cfg : Config) (s0 a b : State) (xs y : List ℕ) (rows : List Fields) (f : Fields) (after : Option (List ℕ))
     → ReadsNext cfg a (Some y) after true f b → Reached cfg s0 xs rows a y
     → (s : State) × (rest : List ℕ) × Reached cfg s0 xs (rows ++ f ∷ []) s rest
 took_more cfg s0 a b xs y rows f None took h = absurd took
 took_more cfg s0 a b xs y rows f (Some z) took h =
     let n = next_some (next_record cfg a [] [] y) f b z took in
-    (n.0.1, n.0.2, subst (λ (r : Row). Reached cfg s0 xs (rows ++ r ∷ []) n.0.1 n.0.2) (sym n.2) (reached-more cfg s0 a xs y rows n.0 h n.1))
+    (n.0.1, n.0.2, subst (λ (r : Fields). Reached cfg s0 xs (rows ++ r ∷ []) n.0.1 n.0.2) (sym n.2) (reached-more cfg s0 a xs y rows n.0 h n.1))
 
 -- a row of another length than the first
-uneven : (bytes : List ℕ) (rows : List Row) (old : Option ℕ) (e : ℕ) (f : Row) (s : State) (rest : List ℕ) → HaveWidth rows old → old ≡ Some e → e ≢ length f
+uneven : (bytes : List ℕ) (rows : List Fields) (old : Option ℕ) (e : ℕ) (f : Fields) (s : State) (rest : List ℕ) → HaveWidth rows old → old ≡ Some e → e ≢ length f
     → Reached default_config st.StartRecord (strip_bom bytes) (rows ++ f ∷ []) s rest → AreUneven bytes
 uneven bytes [] old e f s rest width is other reached = let bad : None ≡ Some e = sym width ∙ is in cc
 uneven bytes (r ∷ rs) old e f s rest width is other reached =
@@ -47,7 +47,7 @@ uneven bytes (r ∷ rs) old e f s rest width is other reached =
     record { first = r; between = rs; last = f; state = s; rest = rest; reached = reached; lengths = λ q. other (let g : e ≡ length r = cc in g ∙ q) }
 
 -- a read that fails, and is answered as a refusal of the text
-pub refused : {R : Type 0} (rem : R → Option (List ℕ)) (a b : Reader R) (bytes y : List ℕ) (rows : List Row) (k : ErrorKind)
+pub refused : {R : Type 0} (rem : R → Option (List ℕ)) (a b : Reader R) (bytes y : List ℕ) (rows : List Fields) (k : ErrorKind)
     → a.config ≡ default_config → source_of rem a ≡ Some y → Reached default_config st.StartRecord (strip_bom bytes) rows a.state y
     → HaveWidth rows a.expected → ExplainsRead rem a b false k → refusal_by k ≡ bad cause.Csv → AreUneven bytes
 refused rem a b bytes y rows (kind.UnequalLengths pos expected len) cfg source reached width why is =

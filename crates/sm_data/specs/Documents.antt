@@ -8,7 +8,7 @@ use Rattle.sm_data.specs.declared.refusal.DataCause.TheVariants as cause
 use Rattle.sm_data.specs.declared.refusal.DataRefusal.{DataRefusal}
 use Rattle.sm_data.specs.declared.table.Table.{Table}
 use Rattle.sm_data.specs.declared.table.Table.TheVariants as table
-use Rattle.sm_data.specs.Names.{is_name}
+use Rattle.sm_words.specs.Names.{is_name}
 use Rattle.sm_data.specs.Numbers.{◌>>=◌, bad, number_of, each}
 
 abbrev pub Entry : Type 0

@@ -8,10 +8,11 @@ use Rattle.sm_data.specs.declared.table.Table.TheVariants as table
 use Rattle.sm_data.specs.declared.refusal.DataCause.TheVariants as cause
 use Rattle.sm_data.specs.declared.refusal.DataRefusal.{DataRefusal}
 use Rattle.sm_data.specs.declared.refusal.DataRefusal.TheVariants as refusal
-use Rattle.sm_data.specs.Names.{is_name, file_name, stem_of}
+use Rattle.sm_words.specs.Names.{is_name}
+use Rattle.sm_data.specs.Paths.{file_name, stem_of}
 use Rattle.sm_data.specs.Numbers.{◌>>=◌, bad, number_of, each}
 use Rattle.sm_data.specs.Documents.{Entry, is_known, entries_with, IsDocument}
-use Rattle.sm_data.specs.Records.{Row, AreRows, AreUneven, ReadsRows}
+use Rattle.sm_data.specs.Records.{Fields, AreRows, AreUneven, RowsHaveReadings}
 
 -- a name with its table, without where they lie
 abbrev pub entry_view : String Global × Table → Entry
@@ -29,14 +30,14 @@ DocumentComesTo bytes known found =
     ⊎ ((ms : Members) × IsDocument bytes ms × (found ≡ entries_with known ms))
 
 -- the records of a file, as a table of two indices with this name
-abbrev pub RowsComeTo : List ℕ → List Row → List Entry → Result (List Entry) DataRefusal → Type 0
+abbrev pub RowsComeTo : List ℕ → List Fields → List Entry → Result (List Entry) DataRefusal → Type 0
 RowsComeTo name rows known found =
-    (reads : List (List (Option ℤ))) → ReadsRows rows reads → found ≡ (each (each number_of) reads >>= λ grid. Ok (known ++ (name, table.Grid grid) ∷ []))
+    (reads : List (List (Option ℤ))) → RowsHaveReadings rows reads → found ≡ (each (each number_of) reads >>= λ grid. Ok (known ++ (name, table.Grid grid) ∷ []))
 
 -- a file of comma-separated fields: its records have different lengths, or their fields are walked
 abbrev pub RecordsComeTo : List ℕ → List ℕ → List Entry → Result (List Entry) DataRefusal → Type 0
 RecordsComeTo name bytes known found =
-    ((found ≡ Err (bad cause.Csv)) × AreUneven bytes) ⊎ ((rows : List Row) × AreRows bytes rows × RowsComeTo name rows known found)
+    ((found ≡ Err (bad cause.Csv)) × AreUneven bytes) ⊎ ((rows : List Fields) × AreRows bytes rows × RowsComeTo name rows known found)
 
 -- its name comes first, then whether it is new, then the bytes
 abbrev pub NamedComesTo : Bool → Bool → List ℕ → List ℕ → List Entry → Result (List Entry) DataRefusal → Type 0
@@ -60,3 +61,8 @@ Answers P after (Ok x) = P (Ok after)
 Answers P after (Err refusal.OutOfMemory) = Unit {0}
 Answers P after (Err (refusal.BadData c)) = P (Err (refusal.BadData c))
 Answers P after (Err (refusal.Limit what number bound)) = P (Err (refusal.Limit what number bound))
+
+-- what a call tells that had the memory: what it leaves, or why the file is refused
+abbrev pub told_by : {X A : Type 0} → A → Result X DataRefusal → Result A DataRefusal
+told_by after (Ok x) = Ok after
+told_by after (Err e) = Err e

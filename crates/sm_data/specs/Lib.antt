@@ -1,4 +1,4 @@
-pub mod Names
+pub mod Paths
 pub mod Numbers
 pub mod Documents
 pub mod Records

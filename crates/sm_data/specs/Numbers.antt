@@ -1,5 +1,5 @@
 -- Entries of tables, and lists of them: the first refusal counts.
-use Rattle.std.specs.Prelude.{◌≡◌, ◌-◌, ◌^◌, ℕ, ℤ, pos, min, nat_le, unsigned_abs, List, [], ◌∷◌, Option, Some, None, Result, Ok, Err, if◌then◌else◌}
+use Rattle.std.specs.Prelude.{◌≡◌, ◌-◌, ◌^◌, ℤ, pos, min, nat_le, unsigned_abs, List, [], ◌∷◌, Option, Some, None, Result, Ok, Err, if◌then◌else◌}
 use Rattle.sm_data.specs.declared.refusal.DataCause.{DataCause}
 use Rattle.sm_data.specs.declared.refusal.DataCause.TheVariants as cause
 use Rattle.sm_data.specs.declared.refusal.Counted.TheVariants as counted

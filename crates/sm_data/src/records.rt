@@ -3,7 +3,7 @@ ghost use Rattle.std.specs.Prelude.{◌≡◌, ◌⊎◌, ℤ, List, Option, IfO
 ghost use Rattle.csv.specs.Records.{fields_of};
 ghost use Rattle.csv.specs.Reading.{error_kind};
 ghost use Rattle.sm_data.specs.Numbers.{Gives, bad, number_of, each};
-ghost use Rattle.sm_data.specs.Records.{AreRows, AreUneven, Reads, ReadsEach, ReadsRows, refusal_by};
+ghost use Rattle.sm_data.specs.Records.{AreRows, AreUneven, HasReading, HaveReadings, RowsHaveReadings, refusal_by};
 ghost use Rattle.sm_data.specs.declared.refusal.DataCause.TheVariants as cause;
 ghost use Rattle.sm_data.specs.declared.refusal.DataRefusal.TheVariants.{OutOfMemory};
 
@@ -52,15 +52,15 @@ pub(crate) fn rows(alloc: Global, bytes: &[u8]) -> Result<Vec<ByteRecord>, DataR
 
 /// The number that a field writes, if it is one of 128 bits in its canonical form.
 fn reading(field: &[u8]) -> Option<i128>
-    ensures value { Reads field.now result }
-    ensures only { (r : Option ℤ) → Reads field.now r → r ≡ result }
+    ensures value { HasReading field.now result }
+    ensures only { (r : Option ℤ) → HasReading field.now r → r ≡ result }
 {
     read_whole(field)
 }
 
 /// The entry that a field writes.
 fn number(field: &[u8]) -> Result<i64, DataRefusal>
-    ensures { (r : Option ℤ) → Reads field.now r → Gives (λ z. z) result (number_of r) }
+    ensures { (r : Option ℤ) → HasReading field.now r → Gives (λ z. z) result (number_of r) }
 {
     match reading(field) {
         Some(number) => entry(number),
@@ -72,7 +72,7 @@ fn number(field: &[u8]) -> Result<i64, DataRefusal>
 
 /// The entries of a record.
 fn numbers(alloc: Global, row: &ByteRecord) -> Result<Items<i64>, DataRefusal>
-    ensures { (rs : List (Option ℤ)) → ReadsEach (fields_of row.now) rs → Gives (λ v. v) result (each number_of rs) }
+    ensures { (rs : List (Option ℤ)) → HaveReadings (fields_of row.now) rs → Gives (λ v. v) result (each number_of rs) }
 {
     let mut numbers = Items::new(alloc);
     for field in row.iter() {
@@ -83,7 +83,7 @@ fn numbers(alloc: Global, row: &ByteRecord) -> Result<Items<i64>, DataRefusal>
 
 /// The entries of the records.
 pub(crate) fn grid(alloc: Global, rows: &[ByteRecord]) -> Result<Items<Items<i64>>, DataRefusal>
-    ensures { (rss : List (List (Option ℤ))) → ReadsRows (map fields_of rows.now) rss →
+    ensures { (rss : List (List (Option ℤ))) → RowsHaveReadings (map fields_of rows.now) rss →
         Gives (λ v. v) result (each (each number_of) rss) }
 {
     let mut grid = Items::new(alloc);

@@ -6,9 +6,9 @@ use Rattle.sm_syntax.specs.Terminals.{code_of}
 use Rattle.sm_syntax.specs.Grammars.{Symbol, leaf, node, predict}
 use Rattle.sm_syntax.specs.Grammar as g
 use Rattle.sm_syntax.specs.Parsing.{kind, becomes, bad, is_rule}
-use Rattle.sm_syntax.specs.Reading.{State, left, next, is_next, is_plain, unlisted, Leads, Stops}
+use Rattle.sm_syntax.specs.Reading.{Standing, left, next, is_next, is_plain, unlisted, Leads, Stops}
 use Rattle.sm_syntax.specs.Symbols.{sign_of, relation_of, lit_relation_of, quantifier_of, choosing_of, level_of, relaxing_of, picking_of, splitting_of}
-use Rattle.sm_syntax.specs.Steps.{sign_symbol, sign_then, relation_symbol, relation_then, lit_relation_symbol, lit_relation_then, quantifier_symbol, quantifier_then, choosing_symbol, choosing_then, level_symbol, level_then, relaxing_symbol, relaxing_then, picking_symbol, picking_then, splitting_symbol, splitting_then}
+use Rattle.sm_syntax.specs.TreeSteps.{sign_symbol, sign_then, relation_symbol, relation_then, lit_relation_symbol, lit_relation_then, quantifier_symbol, quantifier_then, choosing_symbol, choosing_then, level_symbol, level_then, relaxing_symbol, relaxing_then, picking_symbol, picking_then, splitting_symbol, splitting_then}
 use Rattle.sm_syntax.proofs.Readings.{after, opened_group, restep, stop_after, stop_other}
 use Rattle.sm_syntax.specs.declared.tree.Sign.{Sign}
 use Rattle.sm_syntax.specs.declared.tree.Sign.TheVariants as signs
@@ -38,16 +38,16 @@ pub record Chosen (A : ℕ) (t : Terminal) (x : Symbol) : Type 0 where
 pub plain_word : {A : ℕ} {t : Terminal} {x : Symbol} → Chosen A t x → is_plain t ≡ true
 plain_word w = w.plain
 
-pub next_word : (s : State) (t : Terminal) → t ≡ s.first.terminal → is_next t s ≡ true
+pub next_word : (s : Standing) (t : Terminal) → t ≡ s.first.terminal → is_next t s ≡ true
 next_word s t first = eq-eqb (code_of t) (kind s.first) (ap code_of first)
 
-word_read : {A : ℕ} {t : Terminal} {x : Symbol} (s u : State) → is_rule A ≡ false → t ≡ s.first.terminal → Chosen A t x → Leads s (leaf (code_of t) ∷ []) (unlisted t) u [] → Leads s (node A ∷ []) (λ r. becomes (node A) (x ∷ []) ∷ r) u []
+word_read : {A : ℕ} {t : Terminal} {x : Symbol} (s u : Standing) → is_rule A ≡ false → t ≡ s.first.terminal → Chosen A t x → Leads s (leaf (code_of t) ∷ []) (unlisted t) u [] → Leads s (node A ∷ []) (λ r. becomes (node A) (x ∷ []) ∷ r) u []
 word_read {A} {t} {x} s u group first w lead =
     let side : predict g.grammar A (next s) ≡ Some (leaf (code_of t) ∷ []) = subst (λ (z : Terminal). predict g.grammar A (code_of z) ≡ Some (leaf (code_of t) ∷ [])) first w.side in
     restep (λ r. becomes (node A) (x ∷ []) ∷ r) (λ r. ap (λ (y : Symbol). becomes (node A) (y ∷ []) ∷ r) (sym w.symbol))
     (after (opened_group s A (leaf (code_of t) ∷ []) group side) lead)
 
-word_stop : (A c : ℕ) (s : State) → is_rule A ≡ false → predict g.grammar A (next s) ≡ Some (leaf c ∷ []) → (c == kind s.first) ≡ false → Stops s (node A ∷ []) (bad (left s))
+word_stop : (A c : ℕ) (s : Standing) → is_rule A ≡ false → predict g.grammar A (next s) ≡ Some (leaf c ∷ []) → (c == kind s.first) ≡ false → Stops s (node A ∷ []) (bad (left s))
 word_stop A c s group side differs = stop_after (opened_group s A (leaf c ∷ []) group side) (stop_other s c differs)
 
 -- ---- sign
@@ -58,7 +58,7 @@ sign_word terminal.Plus x e = let same : signs.Plus ≡ x = cc in subst (λ (y :
 sign_word terminal.Minus x e = let same : signs.Minus ≡ x = cc in subst (λ (y : Sign). Chosen 37 terminal.Minus (sign_symbol y)) same (record { side = refl; symbol = refl; plain = refl })
 sign_word _ x e = absurd (let wrong : None ≡ Some x = e in cc)
 
-pub sign_reads : (s u : State) (t : Terminal) (x : Sign) → t ≡ s.first.terminal → sign_of t ≡ Some x → Leads s (leaf (code_of t) ∷ []) (unlisted t) u [] → Leads s (node 37 ∷ []) (sign_then x) u []
+pub sign_reads : (s u : Standing) (t : Terminal) (x : Sign) → t ≡ s.first.terminal → sign_of t ≡ Some x → Leads s (leaf (code_of t) ∷ []) (unlisted t) u [] → Leads s (node 37 ∷ []) (sign_then x) u []
 sign_reads s u t x first e lead = word_read s u refl first (sign_word t x e) lead
 
 sign_side : (t : Terminal) → sign_of t ≡ None → (predict g.grammar 37 (code_of t) ≡ Some (g.token_plus ∷ [])) × ((60 == code_of t) ≡ false)
@@ -67,7 +67,7 @@ sign_side terminal.Plus e = absurd (let wrong : Some signs.Plus ≡ None = e in 
 sign_side terminal.Minus e = absurd (let wrong : Some signs.Minus ≡ None = e in cc)
 sign_side _ e = (refl, refl)
 
-pub sign_stops : (s : State) (t : Terminal) → t ≡ s.first.terminal → sign_of t ≡ None → Stops s (node 37 ∷ []) (bad (left s))
+pub sign_stops : (s : Standing) (t : Terminal) → t ≡ s.first.terminal → sign_of t ≡ None → Stops s (node 37 ∷ []) (bad (left s))
 sign_stops s t first e =
     let side = sign_side t e in
     word_stop 37 60 s refl (subst (λ (z : Terminal). predict g.grammar 37 (code_of z) ≡ Some (g.token_plus ∷ [])) first side.0) (subst (λ (z : Terminal). (60 == code_of z) ≡ false) first side.1)
@@ -84,7 +84,7 @@ relation_word terminal.Equal x e = let same : relations.Equal ≡ x = cc in subs
 relation_word terminal.Unequal x e = let same : relations.Unequal ≡ x = cc in subst (λ (y : Relation). Chosen 34 terminal.Unequal (relation_symbol y)) same (record { side = refl; symbol = refl; plain = refl })
 relation_word _ x e = absurd (let wrong : None ≡ Some x = e in cc)
 
-pub relation_reads : (s u : State) (t : Terminal) (x : Relation) → t ≡ s.first.terminal → relation_of t ≡ Some x → Leads s (leaf (code_of t) ∷ []) (unlisted t) u [] → Leads s (node 34 ∷ []) (relation_then x) u []
+pub relation_reads : (s u : Standing) (t : Terminal) (x : Relation) → t ≡ s.first.terminal → relation_of t ≡ Some x → Leads s (leaf (code_of t) ∷ []) (unlisted t) u [] → Leads s (node 34 ∷ []) (relation_then x) u []
 relation_reads s u t x first e lead = word_read s u refl first (relation_word t x e) lead
 
 relation_side : (t : Terminal) → relation_of t ≡ None → (predict g.grammar 34 (code_of t) ≡ Some (g.token_less ∷ [])) × ((54 == code_of t) ≡ false)
@@ -97,7 +97,7 @@ relation_side terminal.Equal e = absurd (let wrong : Some relations.Equal ≡ No
 relation_side terminal.Unequal e = absurd (let wrong : Some relations.Unequal ≡ None = e in cc)
 relation_side _ e = (refl, refl)
 
-pub relation_stops : (s : State) (t : Terminal) → t ≡ s.first.terminal → relation_of t ≡ None → Stops s (node 34 ∷ []) (bad (left s))
+pub relation_stops : (s : Standing) (t : Terminal) → t ≡ s.first.terminal → relation_of t ≡ None → Stops s (node 34 ∷ []) (bad (left s))
 relation_stops s t first e =
     let side = relation_side t e in
     word_stop 34 54 s refl (subst (λ (z : Terminal). predict g.grammar 34 (code_of z) ≡ Some (g.token_less ∷ [])) first side.0) (subst (λ (z : Terminal). (54 == code_of z) ≡ false) first side.1)
@@ -112,7 +112,7 @@ lit_relation_word terminal.Equal x e = let same : lit_relations.Equal ≡ x = cc
 lit_relation_word terminal.Unequal x e = let same : lit_relations.Unequal ≡ x = cc in subst (λ (y : LitRelation). Chosen 53 terminal.Unequal (lit_relation_symbol y)) same (record { side = refl; symbol = refl; plain = refl })
 lit_relation_word _ x e = absurd (let wrong : None ≡ Some x = e in cc)
 
-pub lit_relation_reads : (s u : State) (t : Terminal) (x : LitRelation) → t ≡ s.first.terminal → lit_relation_of t ≡ Some x → Leads s (leaf (code_of t) ∷ []) (unlisted t) u [] → Leads s (node 53 ∷ []) (lit_relation_then x) u []
+pub lit_relation_reads : (s u : Standing) (t : Terminal) (x : LitRelation) → t ≡ s.first.terminal → lit_relation_of t ≡ Some x → Leads s (leaf (code_of t) ∷ []) (unlisted t) u [] → Leads s (node 53 ∷ []) (lit_relation_then x) u []
 lit_relation_reads s u t x first e lead = word_read s u refl first (lit_relation_word t x e) lead
 
 lit_relation_side : (t : Terminal) → lit_relation_of t ≡ None → (predict g.grammar 53 (code_of t) ≡ Some (g.token_at_most ∷ [])) × ((55 == code_of t) ≡ false)
@@ -123,7 +123,7 @@ lit_relation_side terminal.Equal e = absurd (let wrong : Some lit_relations.Equa
 lit_relation_side terminal.Unequal e = absurd (let wrong : Some lit_relations.Unequal ≡ None = e in cc)
 lit_relation_side _ e = (refl, refl)
 
-pub lit_relation_stops : (s : State) (t : Terminal) → t ≡ s.first.terminal → lit_relation_of t ≡ None → Stops s (node 53 ∷ []) (bad (left s))
+pub lit_relation_stops : (s : Standing) (t : Terminal) → t ≡ s.first.terminal → lit_relation_of t ≡ None → Stops s (node 53 ∷ []) (bad (left s))
 lit_relation_stops s t first e =
     let side = lit_relation_side t e in
     word_stop 53 55 s refl (subst (λ (z : Terminal). predict g.grammar 53 (code_of z) ≡ Some (g.token_at_most ∷ [])) first side.0) (subst (λ (z : Terminal). (55 == code_of z) ≡ false) first side.1)
@@ -136,7 +136,7 @@ quantifier_word terminal.All x e = let same : quantifiers.All ≡ x = cc in subs
 quantifier_word terminal.Any x e = let same : quantifiers.Any ≡ x = cc in subst (λ (y : Quantifier). Chosen 52 terminal.Any (quantifier_symbol y)) same (record { side = refl; symbol = refl; plain = refl })
 quantifier_word _ x e = absurd (let wrong : None ≡ Some x = e in cc)
 
-pub quantifier_reads : (s u : State) (t : Terminal) (x : Quantifier) → t ≡ s.first.terminal → quantifier_of t ≡ Some x → Leads s (leaf (code_of t) ∷ []) (unlisted t) u [] → Leads s (node 52 ∷ []) (quantifier_then x) u []
+pub quantifier_reads : (s u : Standing) (t : Terminal) (x : Quantifier) → t ≡ s.first.terminal → quantifier_of t ≡ Some x → Leads s (leaf (code_of t) ∷ []) (unlisted t) u [] → Leads s (node 52 ∷ []) (quantifier_then x) u []
 quantifier_reads s u t x first e lead = word_read s u refl first (quantifier_word t x e) lead
 
 quantifier_side : (t : Terminal) → quantifier_of t ≡ None → (predict g.grammar 52 (code_of t) ≡ Some (g.token_all ∷ [])) × ((32 == code_of t) ≡ false)
@@ -145,7 +145,7 @@ quantifier_side terminal.All e = absurd (let wrong : Some quantifiers.All ≡ No
 quantifier_side terminal.Any e = absurd (let wrong : Some quantifiers.Any ≡ None = e in cc)
 quantifier_side _ e = (refl, refl)
 
-pub quantifier_stops : (s : State) (t : Terminal) → t ≡ s.first.terminal → quantifier_of t ≡ None → Stops s (node 52 ∷ []) (bad (left s))
+pub quantifier_stops : (s : Standing) (t : Terminal) → t ≡ s.first.terminal → quantifier_of t ≡ None → Stops s (node 52 ∷ []) (bad (left s))
 quantifier_stops s t first e =
     let side = quantifier_side t e in
     word_stop 52 32 s refl (subst (λ (z : Terminal). predict g.grammar 52 (code_of z) ≡ Some (g.token_all ∷ [])) first side.0) (subst (λ (z : Terminal). (32 == code_of z) ≡ false) first side.1)
@@ -158,7 +158,7 @@ choosing_word terminal.Indexsum x e = let same : choosings.Indexsum ≡ x = cc i
 choosing_word terminal.Assign x e = let same : choosings.Assign ≡ x = cc in subst (λ (y : Choosing). Chosen 41 terminal.Assign (choosing_symbol y)) same (record { side = refl; symbol = refl; plain = refl })
 choosing_word _ x e = absurd (let wrong : None ≡ Some x = e in cc)
 
-pub choosing_reads : (s u : State) (t : Terminal) (x : Choosing) → t ≡ s.first.terminal → choosing_of t ≡ Some x → Leads s (leaf (code_of t) ∷ []) (unlisted t) u [] → Leads s (node 41 ∷ []) (choosing_then x) u []
+pub choosing_reads : (s u : Standing) (t : Terminal) (x : Choosing) → t ≡ s.first.terminal → choosing_of t ≡ Some x → Leads s (leaf (code_of t) ∷ []) (unlisted t) u [] → Leads s (node 41 ∷ []) (choosing_then x) u []
 choosing_reads s u t x first e lead = word_read s u refl first (choosing_word t x e) lead
 
 choosing_side : (t : Terminal) → choosing_of t ≡ None → (predict g.grammar 41 (code_of t) ≡ Some (g.token_indexsum ∷ [])) × ((23 == code_of t) ≡ false)
@@ -167,7 +167,7 @@ choosing_side terminal.Indexsum e = absurd (let wrong : Some choosings.Indexsum 
 choosing_side terminal.Assign e = absurd (let wrong : Some choosings.Assign ≡ None = e in cc)
 choosing_side _ e = (refl, refl)
 
-pub choosing_stops : (s : State) (t : Terminal) → t ≡ s.first.terminal → choosing_of t ≡ None → Stops s (node 41 ∷ []) (bad (left s))
+pub choosing_stops : (s : Standing) (t : Terminal) → t ≡ s.first.terminal → choosing_of t ≡ None → Stops s (node 41 ∷ []) (bad (left s))
 choosing_stops s t first e =
     let side = choosing_side t e in
     word_stop 41 23 s refl (subst (λ (z : Terminal). predict g.grammar 41 (code_of z) ≡ Some (g.token_indexsum ∷ [])) first side.0) (subst (λ (z : Terminal). (23 == code_of z) ≡ false) first side.1)
@@ -181,7 +181,7 @@ level_word terminal.Bounds x e = let same : levels.Bounds ≡ x = cc in subst (�
 level_word terminal.Full x e = let same : levels.Full ≡ x = cc in subst (λ (y : Level). Chosen 54 terminal.Full (level_symbol y)) same (record { side = refl; symbol = refl; plain = refl })
 level_word _ x e = absurd (let wrong : None ≡ Some x = e in cc)
 
-pub level_reads : (s u : State) (t : Terminal) (x : Level) → t ≡ s.first.terminal → level_of t ≡ Some x → Leads s (leaf (code_of t) ∷ []) (unlisted t) u [] → Leads s (node 54 ∷ []) (level_then x) u []
+pub level_reads : (s u : Standing) (t : Terminal) (x : Level) → t ≡ s.first.terminal → level_of t ≡ Some x → Leads s (leaf (code_of t) ∷ []) (unlisted t) u [] → Leads s (node 54 ∷ []) (level_then x) u []
 level_reads s u t x first e lead = word_read s u refl first (level_word t x e) lead
 
 level_side : (t : Terminal) → level_of t ≡ None → (predict g.grammar 54 (code_of t) ≡ Some (g.token_none ∷ [])) × ((40 == code_of t) ≡ false)
@@ -191,7 +191,7 @@ level_side terminal.Bounds e = absurd (let wrong : Some levels.Bounds ≡ None =
 level_side terminal.Full e = absurd (let wrong : Some levels.Full ≡ None = e in cc)
 level_side _ e = (refl, refl)
 
-pub level_stops : (s : State) (t : Terminal) → t ≡ s.first.terminal → level_of t ≡ None → Stops s (node 54 ∷ []) (bad (left s))
+pub level_stops : (s : Standing) (t : Terminal) → t ≡ s.first.terminal → level_of t ≡ None → Stops s (node 54 ∷ []) (bad (left s))
 level_stops s t first e =
     let side = level_side t e in
     word_stop 54 40 s refl (subst (λ (z : Terminal). predict g.grammar 54 (code_of z) ≡ Some (g.token_none ∷ [])) first side.0) (subst (λ (z : Terminal). (40 == code_of z) ≡ false) first side.1)
@@ -204,7 +204,7 @@ relaxing_word terminal.On x e = let same : relaxings.On ≡ x = cc in subst (λ 
 relaxing_word terminal.None x e = let same : relaxings.None ≡ x = cc in subst (λ (y : Relaxing). Chosen 55 terminal.None (relaxing_symbol y)) same (record { side = refl; symbol = refl; plain = refl })
 relaxing_word _ x e = absurd (let wrong : None ≡ Some x = e in cc)
 
-pub relaxing_reads : (s u : State) (t : Terminal) (x : Relaxing) → t ≡ s.first.terminal → relaxing_of t ≡ Some x → Leads s (leaf (code_of t) ∷ []) (unlisted t) u [] → Leads s (node 55 ∷ []) (relaxing_then x) u []
+pub relaxing_reads : (s u : Standing) (t : Terminal) (x : Relaxing) → t ≡ s.first.terminal → relaxing_of t ≡ Some x → Leads s (leaf (code_of t) ∷ []) (unlisted t) u [] → Leads s (node 55 ∷ []) (relaxing_then x) u []
 relaxing_reads s u t x first e lead = word_read s u refl first (relaxing_word t x e) lead
 
 relaxing_side : (t : Terminal) → relaxing_of t ≡ None → (predict g.grammar 55 (code_of t) ≡ Some (g.token_on ∷ [])) × ((43 == code_of t) ≡ false)
@@ -213,7 +213,7 @@ relaxing_side terminal.On e = absurd (let wrong : Some relaxings.On ≡ None = e
 relaxing_side terminal.None e = absurd (let wrong : Some relaxings.None ≡ None = e in cc)
 relaxing_side _ e = (refl, refl)
 
-pub relaxing_stops : (s : State) (t : Terminal) → t ≡ s.first.terminal → relaxing_of t ≡ None → Stops s (node 55 ∷ []) (bad (left s))
+pub relaxing_stops : (s : Standing) (t : Terminal) → t ≡ s.first.terminal → relaxing_of t ≡ None → Stops s (node 55 ∷ []) (bad (left s))
 relaxing_stops s t first e =
     let side = relaxing_side t e in
     word_stop 55 43 s refl (subst (λ (z : Terminal). predict g.grammar 55 (code_of z) ≡ Some (g.token_on ∷ [])) first side.0) (subst (λ (z : Terminal). (43 == code_of z) ≡ false) first side.1)
@@ -227,7 +227,7 @@ picking_word terminal.Small x e = let same : pickings.Small ≡ x = cc in subst 
 picking_word terminal.Point x e = let same : pickings.Point ≡ x = cc in subst (λ (y : Picking). Chosen 56 terminal.Point (picking_symbol y)) same (record { side = refl; symbol = refl; plain = refl })
 picking_word _ x e = absurd (let wrong : None ≡ Some x = e in cc)
 
-pub picking_reads : (s u : State) (t : Terminal) (x : Picking) → t ≡ s.first.terminal → picking_of t ≡ Some x → Leads s (leaf (code_of t) ∷ []) (unlisted t) u [] → Leads s (node 56 ∷ []) (picking_then x) u []
+pub picking_reads : (s u : Standing) (t : Terminal) (x : Picking) → t ≡ s.first.terminal → picking_of t ≡ Some x → Leads s (leaf (code_of t) ∷ []) (unlisted t) u [] → Leads s (node 56 ∷ []) (picking_then x) u []
 picking_reads s u t x first e lead = word_read s u refl first (picking_word t x e) lead
 
 picking_side : (t : Terminal) → picking_of t ≡ None → (predict g.grammar 56 (code_of t) ≡ Some (g.token_first ∷ [])) × ((44 == code_of t) ≡ false)
@@ -237,7 +237,7 @@ picking_side terminal.Small e = absurd (let wrong : Some pickings.Small ≡ None
 picking_side terminal.Point e = absurd (let wrong : Some pickings.Point ≡ None = e in cc)
 picking_side _ e = (refl, refl)
 
-pub picking_stops : (s : State) (t : Terminal) → t ≡ s.first.terminal → picking_of t ≡ None → Stops s (node 56 ∷ []) (bad (left s))
+pub picking_stops : (s : Standing) (t : Terminal) → t ≡ s.first.terminal → picking_of t ≡ None → Stops s (node 56 ∷ []) (bad (left s))
 picking_stops s t first e =
     let side = picking_side t e in
     word_stop 56 44 s refl (subst (λ (z : Terminal). predict g.grammar 56 (code_of z) ≡ Some (g.token_first ∷ [])) first side.0) (subst (λ (z : Terminal). (44 == code_of z) ≡ false) first side.1)
@@ -251,7 +251,7 @@ splitting_word terminal.Least x e = let same : splittings.Least ≡ x = cc in su
 splitting_word terminal.Most x e = let same : splittings.Most ≡ x = cc in subst (λ (y : Splitting). Chosen 57 terminal.Most (splitting_symbol y)) same (record { side = refl; symbol = refl; plain = refl })
 splitting_word _ x e = absurd (let wrong : None ≡ Some x = e in cc)
 
-pub splitting_reads : (s u : State) (t : Terminal) (x : Splitting) → t ≡ s.first.terminal → splitting_of t ≡ Some x → Leads s (leaf (code_of t) ∷ []) (unlisted t) u [] → Leads s (node 57 ∷ []) (splitting_then x) u []
+pub splitting_reads : (s u : Standing) (t : Terminal) (x : Splitting) → t ≡ s.first.terminal → splitting_of t ≡ Some x → Leads s (leaf (code_of t) ∷ []) (unlisted t) u [] → Leads s (node 57 ∷ []) (splitting_then x) u []
 splitting_reads s u t x first e lead = word_read s u refl first (splitting_word t x e) lead
 
 splitting_side : (t : Terminal) → splitting_of t ≡ None → (predict g.grammar 57 (code_of t) ≡ Some (g.token_half ∷ [])) × ((47 == code_of t) ≡ false)
@@ -261,7 +261,7 @@ splitting_side terminal.Least e = absurd (let wrong : Some splittings.Least ≡ 
 splitting_side terminal.Most e = absurd (let wrong : Some splittings.Most ≡ None = e in cc)
 splitting_side _ e = (refl, refl)
 
-pub splitting_stops : (s : State) (t : Terminal) → t ≡ s.first.terminal → splitting_of t ≡ None → Stops s (node 57 ∷ []) (bad (left s))
+pub splitting_stops : (s : Standing) (t : Terminal) → t ≡ s.first.terminal → splitting_of t ≡ None → Stops s (node 57 ∷ []) (bad (left s))
 splitting_stops s t first e =
     let side = splitting_side t e in
     word_stop 57 47 s refl (subst (λ (z : Terminal). predict g.grammar 57 (code_of z) ≡ Some (g.token_half ∷ [])) first side.0) (subst (λ (z : Terminal). (47 == code_of z) ≡ false) first side.1)

@@ -7,7 +7,8 @@ use Rattle.std.proofs.lemmas.Bool.Decides.{nat_tests}
 use Rattle.sm_syntax.specs.declared.terminal.Piece.{Piece}
 use Rattle.sm_syntax.specs.declared.terminal.Piece.TheVariants.{Blank, Comment, Word, Digits, Sign}
 use Rattle.sm_syntax.specs.declared.place.Place.{Place}
-use Rattle.sm_syntax.specs.Tokens.{is_digit, is_blank, is_letter, piece_of, length_behind, terminal_of, place_behind, before, tokens_behind, tokens_from}
+use Rattle.sm_words.specs.Letters.{is_digit, is_letter}
+use Rattle.sm_syntax.specs.Tokens.{is_blank, piece_of, length_behind, terminal_of, place_behind, before, tokens_behind, tokens_from}
 
 pub run_within : (p : ℕ → Bool) (bs : List ℕ) → prefix_len p bs ≤ length bs
 run_within p bs = prefix_len-le-length p bs

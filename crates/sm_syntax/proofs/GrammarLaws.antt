@@ -1,7 +1,8 @@
 -- What one token of look-ahead says of a grammar.
 use Rattle.std.proofs.Common.{◌≡◌, ◌∙◌, ap, sym, subst, refl, inl, inr, ◌⊎◌, ◌&&◌, ◌||◌, ℕ, Bool, true, false, List, [], ◌∷◌, ◌++◌, Option, Some, None, append_assoc, eq-eqb, find}
 use Rattle.std.specs.Prelude.{if◌then◌else◌}
-use Rattle.sm_syntax.specs.Grammars.{Symbol, leaf, node, Grammar, Derives, IsOneOf, done, token, rule, is_among, vanishes, starts, first_some, first_of, predict, FollowsIn, IsLl1}
+use Rattle.std.proofs.lemmas.Bool.{and_from, and_parts, or_left, or_right}
+use Rattle.sm_syntax.specs.Grammars.{Symbol, leaf, node, Grammar, Derives, IsAlternative, done, token, rule, is_among, vanishes, starts, first_some, first_of, predict, FollowsIn, IsLl1}
 
 -- ---- tests
 
@@ -11,22 +12,6 @@ node_case true n s x v y ih h = inl refl
 node_case false true s x v y ih h = ih h
 node_case false false s x v y ih h = let wrong : false ≡ true = h in cc
 
-pub both : (a b : Bool) → (a && b) ≡ true → (a ≡ true) × (b ≡ true)
-both true b h = (refl, h)
-both false b h = let wrong : false ≡ true = h in cc
-
-pub and_true : (a b : Bool) → a ≡ true → b ≡ true → (a && b) ≡ true
-and_true true b h k = k
-and_true false b h k = h
-
-pub or_left : (a b : Bool) → a ≡ true → (a || b) ≡ true
-or_left true b h = refl
-or_left false b h = let wrong : false ≡ true = h in cc
-
-pub or_right : (a b : Bool) → b ≡ true → (a || b) ≡ true
-or_right true b h = refl
-or_right false b h = h
-
 -- ---- taking a derivation apart
 
 pub at_done : {g : Grammar} {w : List ℕ} → Derives g [] w → w ≡ []
@@ -35,7 +20,7 @@ at_done done = refl
 pub at_token : {g : Grammar} {a : ℕ} {ss : List Symbol} {w : List ℕ} → Derives g (leaf a ∷ ss) w → (v : List ℕ) × (w ≡ a ∷ v) × Derives g ss v
 at_token (token a ss v d) = (v, refl, d)
 
-pub at_rule : {g : Grammar} {A : ℕ} {ss : List Symbol} {w : List ℕ} → Derives g (node A ∷ ss) w → (rhs : List Symbol) × IsOneOf (g.alternatives A) rhs × Derives g (rhs ++ ss) w
+pub at_rule : {g : Grammar} {A : ℕ} {ss : List Symbol} {w : List ℕ} → Derives g (node A ∷ ss) w → (rhs : List Symbol) × IsAlternative (g.alternatives A) rhs × Derives g (rhs ++ ss) w
 at_rule (rule A rhs ss w has d) = (rhs, has, d)
 
 -- ---- what a right side begins with
@@ -50,20 +35,20 @@ vanishes_both : (g : Grammar) (xs ys : List Symbol) → vanishes g (xs ++ ys) �
 vanishes_both g [] ys h = (refl, h)
 vanishes_both g (leaf a ∷ xs) ys h = let wrong : false ≡ true = h in cc
 vanishes_both g (node A ∷ xs) ys h =
-    let p = both (g.nullable A) (vanishes g (xs ++ ys)) h in
+    let p = and_parts (g.nullable A) (vanishes g (xs ++ ys)) h in
     let q = vanishes_both g xs ys p.1 in
-    (and_true (g.nullable A) (vanishes g xs) p.0 q.0, q.1)
+    (and_from (g.nullable A) (vanishes g xs) p.0 q.0, q.1)
 
-begins_rule : {g : Grammar} (ok : IsLl1 g) (A : ℕ) (rhs xs : List Symbol) (d : ℕ) (Y : Type 0) → IsOneOf (g.alternatives A) rhs
+begins_rule : {g : Grammar} (ok : IsLl1 g) (A : ℕ) (rhs xs : List Symbol) (d : ℕ) (Y : Type 0) → IsAlternative (g.alternatives A) rhs
     → (starts g (rhs ++ xs) d ≡ true) ⊎ ((vanishes g (rhs ++ xs) ≡ true) × Y)
     → (starts g (node A ∷ xs) d ≡ true) ⊎ ((vanishes g (node A ∷ xs) ≡ true) × Y)
 begins_rule {g} ok A rhs xs d Y has (inl p) = elim (starts_both g rhs xs d p) [
   | inl q ↦ inl (or_left (is_among d (g.first A)) (g.nullable A && starts g xs d) (ok.firsts A rhs has d q))
-  | inr q ↦ inl (or_right (is_among d (g.first A)) (g.nullable A && starts g xs d) (and_true (g.nullable A) (starts g xs d) (ok.empties A rhs has q.0) q.1))
+  | inr q ↦ inl (or_right (is_among d (g.first A)) (g.nullable A && starts g xs d) (and_from (g.nullable A) (starts g xs d) (ok.empties A rhs has q.0) q.1))
 ]
 begins_rule {g} ok A rhs xs d Y has (inr p) =
     let q = vanishes_both g rhs xs p.0 in
-    inr (and_true (g.nullable A) (vanishes g xs) (ok.empties A rhs has q.0) q.1, p.1)
+    inr (and_from (g.nullable A) (vanishes g xs) (ok.empties A rhs has q.0) q.1, p.1)
 
 -- the first token of what xs and then ys derive
 begins : {g : Grammar} (ok : IsLl1 g) {total : List Symbol} {text : List ℕ} → Derives g total text → (xs ys : List Symbol) → total ≡ xs ++ ys → (d : ℕ) (w : List ℕ) → text ≡ d ∷ w
@@ -99,10 +84,10 @@ open_more ok A (node X ∷ xs) ss f after h = (
 )
 
 -- the one alternative that can go on
-pub chosen : {g : Grammar} (ok : IsLl1 g) (A : ℕ) (rhs ss : List Symbol) (d : ℕ) (w : List ℕ) → IsOneOf (g.alternatives A) rhs → IsOpen g (node A ∷ ss) → Derives g (rhs ++ ss) (d ∷ w) → predict g A d ≡ Some rhs
+pub chosen : {g : Grammar} (ok : IsLl1 g) (A : ℕ) (rhs ss : List Symbol) (d : ℕ) (w : List ℕ) → IsAlternative (g.alternatives A) rhs → IsOpen g (node A ∷ ss) → Derives g (rhs ++ ss) (d ∷ w) → predict g A d ≡ Some rhs
 chosen {g} ok A rhs ss d w has open_ss r = ok.one A rhs has d (elim (begins ok r rhs ss refl d w refl) [
   | inl p ↦ or_left (starts g rhs d) (vanishes g rhs && is_among d (g.follow A)) p
-  | inr p ↦ or_right (starts g rhs d) (vanishes g rhs && is_among d (g.follow A)) (and_true (vanishes g rhs) (is_among d (g.follow A)) p.0 (open_ss.0 d w p.1))
+  | inr p ↦ or_right (starts g rhs d) (vanishes g rhs && is_among d (g.follow A)) (and_from (vanishes g rhs) (is_among d (g.follow A)) p.0 (open_ss.0 d w p.1))
 ])
 
 -- ---- each list of symbols derives some word
@@ -123,19 +108,19 @@ find_case : (b : Bool) (y x : List Symbol) (o : Option (List Symbol)) → (if b 
 find_case true y x o h = inl (let e : y ≡ x = cc in e)
 find_case false y x o h = inr h
 
-pub find_among : (p : List Symbol → Bool) (xs : List (List Symbol)) (x : List Symbol) → find p xs ≡ Some x → IsOneOf xs x
+pub find_among : (p : List Symbol → Bool) (xs : List (List Symbol)) (x : List Symbol) → find p xs ≡ Some x → IsAlternative xs x
 find_among p [] x h = let wrong : None ≡ Some x = h in cc
 find_among p (y ∷ ys) x h = elim (find_case (p y) y x (find p ys) h) [ inl e ↦ inl e | inr k ↦ inr (find_among p ys x k) ]
 
-first_among : (xs : List (List Symbol)) (x : List Symbol) → first_of xs ≡ Some x → IsOneOf xs x
+first_among : (xs : List (List Symbol)) (x : List Symbol) → first_of xs ≡ Some x → IsAlternative xs x
 first_among [] x h = let wrong : None ≡ Some x = h in cc
 first_among (r ∷ rs) x h = inl (let e : Some r ≡ Some x = h in cc)
 
-one_of_two : (xs : List (List Symbol)) (o p : Option (List Symbol)) (x : List Symbol) → (o ≡ Some x → IsOneOf xs x) → (p ≡ Some x → IsOneOf xs x) → first_some o p ≡ Some x → IsOneOf xs x
+one_of_two : (xs : List (List Symbol)) (o p : Option (List Symbol)) (x : List Symbol) → (o ≡ Some x → IsAlternative xs x) → (p ≡ Some x → IsAlternative xs x) → first_some o p ≡ Some x → IsAlternative xs x
 one_of_two xs None p x f k h = k h
 one_of_two xs (Some y) p x f k h = f h
 
-pub predict_among : (g : Grammar) (A d : ℕ) (x : List Symbol) → predict g A d ≡ Some x → IsOneOf (g.alternatives A) x
+pub predict_among : (g : Grammar) (A d : ℕ) (x : List Symbol) → predict g A d ≡ Some x → IsAlternative (g.alternatives A) x
 predict_among g A d x =
     let xs = g.alternatives A in
     one_of_two xs (find (λ rhs. starts g rhs d) xs) (first_some (find (vanishes g) xs) (first_of xs)) x (find_among (λ rhs. starts g rhs d) xs x)

@@ -1,5 +1,6 @@
 pub mod Cuts
 pub mod Pieces
+pub mod Reserved
 pub mod Codes
 pub mod GrammarLaws
 pub mod GrammarTests

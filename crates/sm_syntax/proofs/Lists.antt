@@ -7,7 +7,7 @@ use Rattle.sm_syntax.specs.Parsing.{Step, becomes}
 use Rattle.sm_syntax.specs.Reading.{each}
 use Rattle.sm_syntax.specs.Expressions.{Expression, Product, Operand, Comparison, addends_of, operands_of, expressions_of, comparisons_of}
 use Rattle.sm_syntax.specs.Formulas.{Claim, Conjunction, claims_of, conjunctions_of, negated}
-use Rattle.sm_syntax.specs.Steps.{item_step, sign_then, product_then, operand_then, expression_then, comparison_then, addends_then, operands_then, expressions_then, comparisons_then, conjunction_then, conjunctions_then, claim_then, claims_then, negation_then}
+use Rattle.sm_syntax.specs.TreeSteps.{item_step, sign_then, product_then, operand_then, expression_then, comparison_then, addends_then, operands_then, expressions_then, comparisons_then, conjunction_then, conjunctions_then, claim_then, claims_then, negation_then}
 
 abbrev pub addend_step : Sign × Product → List Step → List Step
 addend_step a r = becomes g.more_terms (g.sign ∷ g.term ∷ g.more_terms ∷ []) ∷ sign_then a.0 (product_then a.1 r)

@@ -1,8 +1,8 @@
 -- What reading from the left finds: the tree, the first bad token, and the first bracket that is opened too deep.
 use Rattle.std.proofs.Common.{◌≡◌, ◌∙◌, ap, sym, subst, refl, ℕ, true, false, List, [], ◌∷◌, ◌++◌, Some}
 use Rattle.sm_syntax.specs.Tokens.{Token}
-use Rattle.sm_syntax.specs.Grammars.{Symbol, leaf, node, Grammar, Derives, done, token, rule, IsOneOf, predict, IsLl1}
-use Rattle.sm_syntax.specs.Parsing.{kind, kinds, Step, Builds, nothing, reads, uses, noted, entered, FirstBad, TooDeep, depth_after, depth_behind, is_too_deep, Outcome, accepted, bad, too_deep, Run, whole, more, eats, stops, other, takes}
+use Rattle.sm_syntax.specs.Grammars.{Symbol, leaf, node, Grammar, Derives, done, token, rule, IsAlternative, predict, IsLl1}
+use Rattle.sm_syntax.specs.Parsing.{kind, kinds, Step, Builds, nothing, reads, uses, noted, entered, FirstBad, TooDeep, depth_after, depth_behind, is_too_deep, Halt, accepted, bad, too_deep, Run, whole, more, eats, stops, other, takes}
 use Rattle.sm_syntax.proofs.GrammarLaws.{IsOpen, at_done, at_token, at_rule, chosen, open_more, predict_among, some_word}
 
 -- the tokens of a tree are a word of the grammar
@@ -14,7 +14,7 @@ builds_derives (uses A rhs ss ts steps all has _ b) = rule A rhs ss (kinds ts) h
 -- ---- texts that are read to their ends
 
 -- reading comes to the end where there is a word
-pub accepted_derives : {g : Grammar} {ss : List Symbol} {d : ℕ} {text : List Token} {o : Outcome} → Run g ss d text o → o ≡ accepted → Derives g ss (kinds text)
+pub accepted_derives : {g : Grammar} {ss : List Symbol} {d : ℕ} {text : List Token} {o : Halt} → Run g ss d text o → o ≡ accepted → Derives g ss (kinds text)
 accepted_derives (whole d) e = done
 accepted_derives (more d t ts) e = cc
 accepted_derives {g} (eats a ss d t ts o is fits r) e = subst (λ (c : ℕ). Derives g (leaf a ∷ ss) (c ∷ kinds ts)) is (token a ss (kinds ts) (accepted_derives r e))
@@ -31,13 +31,13 @@ first_kind t0 ts0 [] t later w split = (w, let e : t ≡ t0 = cc in ap (λ (x : 
 first_kind t0 ts0 (b ∷ bs) t later w split = (kinds bs ++ kind t ∷ w, let e : b ≡ t0 = cc in ap (λ (x : Token). kind x ∷ (kinds bs ++ kind t ∷ w)) e)
 
 -- the alternative of a word is the one that is predicted
-same_side : {g : Grammar} (ok : IsLl1 g) (A : ℕ) (rhs other_side ss : List Symbol) (c : ℕ) (v w : List ℕ) → IsOneOf (g.alternatives A) other_side → IsOpen g (node A ∷ ss)
+same_side : {g : Grammar} (ok : IsLl1 g) (A : ℕ) (rhs other_side ss : List Symbol) (c : ℕ) (v w : List ℕ) → IsAlternative (g.alternatives A) other_side → IsOpen g (node A ∷ ss)
     → Derives g (other_side ++ ss) w → w ≡ c ∷ v → predict g A c ≡ Some rhs → other_side ≡ rhs
 same_side {g} ok A rhs other_side ss c v w has open_ss d is predicted =
     let only = chosen ok A other_side ss c v has open_ss (subst (λ (u : List ℕ). Derives g (other_side ++ ss) u) is d) in
     let q : Some other_side ≡ Some rhs = sym only ∙ predicted in cc
 
-pub first_bad : {g : Grammar} (ok : IsLl1 g) {ss : List Symbol} {d : ℕ} {text : List Token} {o : Outcome} → Run g ss d text o
+pub first_bad : {g : Grammar} (ok : IsLl1 g) {ss : List Symbol} {d : ℕ} {text : List Token} {o : Halt} → Run g ss d text o
     → (wrong : Token) (rest : List Token) → o ≡ bad (wrong ∷ rest) → IsOpen g ss → FirstBad g ss text wrong
 first_bad ok (whole d) wrong rest e open_ss = cc
 first_bad ok (more d t ts) wrong rest e open_ss = record {
@@ -124,7 +124,7 @@ same_bad {g} {ss} a b p q = neither_before (Derives g ss) p.before q.before a b 
 
 -- ---- brackets
 
-pub first_deep : {g : Grammar} (ok : IsLl1 g) {ss : List Symbol} {d : ℕ} {text : List Token} {o : Outcome} → Run g ss d text o
+pub first_deep : {g : Grammar} (ok : IsLl1 g) {ss : List Symbol} {d : ℕ} {text : List Token} {o : Halt} → Run g ss d text o
     → (bracket : Token) (rest : List Token) → o ≡ too_deep (bracket ∷ rest) → TooDeep g ss d text bracket
 first_deep ok (whole d) bracket rest e = cc
 first_deep ok (more d t ts) bracket rest e = cc
@@ -162,13 +162,13 @@ first_deep {g} ok (takes A rhs ss d t ts o is_rhs run) bracket rest e =
       good = rule A rhs ss (kinds r.before ++ kind bracket ∷ r.more) (predict_among g A (kind t) rhs is_rhs) r.good;
     }
 
-abbrev IsShallow : Outcome → Type 0
+abbrev IsShallow : Halt → Type 0
 IsShallow accepted = Unit {0}
 IsShallow (bad rest) = Unit {0}
 IsShallow (too_deep rest) = ⊥
 
 -- where reading comes to the end or to a bad token, no bracket is too deep that goes on
-no_bracket : {g : Grammar} (ok : IsLl1 g) {ss : List Symbol} {d : ℕ} {text : List Token} {o : Outcome} → Run g ss d text o → IsShallow o → IsOpen g ss
+no_bracket : {g : Grammar} (ok : IsLl1 g) {ss : List Symbol} {d : ℕ} {text : List Token} {o : Halt} → Run g ss d text o → IsShallow o → IsOpen g ss
     → (before : List Token) (b : Token) (later : List Token) (w : List ℕ) → text ≡ before ++ b ∷ later → is_too_deep (depth_behind d before) (kind b) ≡ true
     → Derives g ss (kinds before ++ kind b ∷ w) → ⊥
 no_bracket ok (whole d) s open_ss [] b later w split deep v = let bad_list : [] ≡ b ∷ later = split in cc
@@ -257,7 +257,7 @@ at_reads : {g : Grammar} {a : ℕ} {ss : List Symbol} {t : Token} {ts : List Tok
 at_reads (reads a t ss ts steps all is e b) = (steps, e, b)
 
 at_uses : {g : Grammar} {A : ℕ} {ss : List Symbol} {ts : List Token} {all : List Step} → Builds g (node A ∷ ss) ts all
-    → (rhs : List Symbol) × IsOneOf (g.alternatives A) rhs × (steps : List Step) × (all ≡ entered A rhs ts steps) × Builds g (rhs ++ ss) ts steps
+    → (rhs : List Symbol) × IsAlternative (g.alternatives A) rhs × (steps : List Step) × (all ≡ entered A rhs ts steps) × Builds g (rhs ++ ss) ts steps
 at_uses (uses A rhs ss ts steps all has e b) = (rhs, has, steps, e, b)
 
 pub same_steps : {g : Grammar} (ok : IsLl1 g) {ss : List Symbol} {ts : List Token} {all : List Step} → Builds g ss ts all → (other_steps : List Step) → Builds g ss ts other_steps → IsOpen g ss → IsEnded ss → all ≡ other_steps

@@ -1,14 +1,16 @@
 -- What terminals words, digits and signs can be.
-use Rattle.std.proofs.Common.{◌≡◌, ◌∙◌, subst, refl, arith, ◌≤◌, ◌==◌, ◌&&◌, not, ℕ, Bool, true, false, List, Option, Some, None, codes, length, if◌then◌else◌}
+use Rattle.std.proofs.Common.{◌≡◌, ◌∙◌, subst, refl, arith, ◌≤◌, ◌==◌, ◌&&◌, not, ℕ, Bool, true, false, List, [], ◌∷◌, Option, Some, None, codes, length, if◌then◌else◌}
 use Rattle.std.specs.Prelude.{nat_le}
 use Rattle.std.specs.Str.{bytes_eq}
+use Rattle.std.proofs.lemmas.Bool.{and_parts}
 use Rattle.std.proofs.lemmas.Bool.Decides.{nat_tests}
+use Rattle.sm_words.specs.Names.{longest_name}
 use Rattle.sm_syntax.specs.declared.terminal.Terminal.{Terminal}
 use Rattle.sm_syntax.specs.declared.terminal.Terminal.TheVariants as terminal
 use Rattle.sm_syntax.specs.declared.terminal.Piece.{Piece}
 use Rattle.sm_syntax.specs.declared.terminal.Piece.TheVariants.{Blank, Comment, Word, Digits, Sign}
 use Rattle.sm_syntax.specs.Terminals.{code_of}
-use Rattle.sm_syntax.specs.Words.{or_else, item_word, goal_word, binder_word, constraint_word, grouping_word, formula_word, tag_word, level_word, branching_word, outline_word, body_word, setting_word, reserved_word}
+use Rattle.sm_syntax.specs.Words.{WordTable, terminal_in, or_else, item_words, goal_words, binder_words, constraint_words, grouping_words, formula_words, tag_words, level_words, branching_words, item_word, goal_word, binder_word, constraint_word, grouping_word, formula_word, tag_word, level_word, branching_word, outline_word, body_word, setting_word, reserved_word}
 use Rattle.sm_syntax.specs.Tokens.{name_or_bad, word_terminal, digits_terminal, sign_terminal, terminal_of}
 
 -- no number and not the end
@@ -31,102 +33,30 @@ either_word : (a b : Option Terminal) → IsOther a → IsOther b → IsOther (o
 either_word None b h k = k
 either_word (Some t) b h k = h
 
-item_word_other : (w : List ℕ) → IsOther (item_word w)
-item_word_other w =
-    word_if (bytes_eq w (codes "index")) terminal.Index _ refl (
-    word_if (bytes_eq w (codes "var")) terminal.Var _ refl (
-    word_if (bytes_eq w (codes "post")) terminal.Post _ refl (
-    word_if (bytes_eq w (codes "forall")) terminal.Forall _ refl (
-    word_if (bytes_eq w (codes "set")) terminal.Set _ refl (
-    word_if (bytes_eq w (codes "int")) terminal.Int _ refl (
-    word_if (bytes_eq w (codes "real")) terminal.Real _ refl (
-    tt)))))))
+-- each terminal of the table is such
+abbrev others : WordTable → Bool
+others [] = true
+others (e ∷ es) = is_other e.1 && others es
 
-goal_word_other : (w : List ℕ) → IsOther (goal_word w)
-goal_word_other w =
-    word_if (bytes_eq w (codes "satisfy")) terminal.Satisfy _ refl (
-    word_if (bytes_eq w (codes "minimise")) terminal.Minimise _ refl (
-    word_if (bytes_eq w (codes "maximise")) terminal.Maximise _ refl (
-    tt)))
-
-binder_word_other : (w : List ℕ) → IsOther (binder_word w)
-binder_word_other w =
-    word_if (bytes_eq w (codes "if")) terminal.If _ refl (
-    word_if (bytes_eq w (codes "and")) terminal.And _ refl (
-    word_if (bytes_eq w (codes "in")) terminal.In _ refl (
-    word_if (bytes_eq w (codes "for")) terminal.For _ refl (
-    word_if (bytes_eq w (codes "sum")) terminal.Sum _ refl (
-    tt)))))
-
-constraint_word_other : (w : List ℕ) → IsOther (constraint_word w)
-constraint_word_other w =
-    word_if (bytes_eq w (codes "logic")) terminal.Logic _ refl (
-    word_if (bytes_eq w (codes "when")) terminal.When _ refl (
-    word_if (bytes_eq w (codes "then")) terminal.Then _ refl (
-    word_if (bytes_eq w (codes "alldiff")) terminal.Alldiff _ refl (
-    word_if (bytes_eq w (codes "circuit")) terminal.Circuit _ refl (
-    word_if (bytes_eq w (codes "element")) terminal.Element _ refl (
-    tt))))))
-
-grouping_word_other : (w : List ℕ) → IsOther (grouping_word w)
-grouping_word_other w =
-    word_if (bytes_eq w (codes "indexsum")) terminal.Indexsum _ refl (
-    word_if (bytes_eq w (codes "assign")) terminal.Assign _ refl (
-    word_if (bytes_eq w (codes "cumulative")) terminal.Cumulative _ refl (
-    word_if (bytes_eq w (codes "disjunctive")) terminal.Disjunctive _ refl (
-    word_if (bytes_eq w (codes "packing")) terminal.Packing _ refl (
-    tt)))))
-
-formula_word_other : (w : List ℕ) → IsOther (formula_word w)
-formula_word_other w =
-    word_if (bytes_eq w (codes "implies")) terminal.Implies _ refl (
-    word_if (bytes_eq w (codes "iff")) terminal.Iff _ refl (
-    word_if (bytes_eq w (codes "or")) terminal.Or _ refl (
-    word_if (bytes_eq w (codes "not")) terminal.Not _ refl (
-    word_if (bytes_eq w (codes "all")) terminal.All _ refl (
-    word_if (bytes_eq w (codes "any")) terminal.Any _ refl (
-    tt))))))
-
-tag_word_other : (w : List ℕ) → IsOther (tag_word w)
-tag_word_other w =
-    word_if (bytes_eq w (codes "infer")) terminal.Infer _ refl (
-    word_if (bytes_eq w (codes "relax")) terminal.Relax _ refl (
-    word_if (bytes_eq w (codes "branch")) terminal.Branch _ refl (
-    word_if (bytes_eq w (codes "pick")) terminal.Pick _ refl (
-    word_if (bytes_eq w (codes "split")) terminal.Split _ refl (
-    word_if (bytes_eq w (codes "sub")) terminal.Sub _ refl (
-    tt))))))
-
-level_word_other : (w : List ℕ) → IsOther (level_word w)
-level_word_other w =
-    word_if (bytes_eq w (codes "none")) terminal.None _ refl (
-    word_if (bytes_eq w (codes "bounds")) terminal.Bounds _ refl (
-    word_if (bytes_eq w (codes "full")) terminal.Full _ refl (
-    word_if (bytes_eq w (codes "on")) terminal.On _ refl (
-    tt))))
-
-branching_word_other : (w : List ℕ) → IsOther (branching_word w)
-branching_word_other w =
-    word_if (bytes_eq w (codes "first")) terminal.First _ refl (
-    word_if (bytes_eq w (codes "small")) terminal.Small _ refl (
-    word_if (bytes_eq w (codes "point")) terminal.Point _ refl (
-    word_if (bytes_eq w (codes "half")) terminal.Half _ refl (
-    word_if (bytes_eq w (codes "least")) terminal.Least _ refl (
-    word_if (bytes_eq w (codes "most")) terminal.Most _ refl (
-    tt))))))
+table_other : (es : WordTable) (w : List ℕ) → others es ≡ true → IsOther (terminal_in es w)
+table_other [] w h = tt
+table_other (e ∷ es) w h = let parts = and_parts (is_other e.1) (others es) h in word_if (bytes_eq w e.0) e.1 (terminal_in es w) parts.0 (table_other es w parts.1)
 
 reserved_other : (w : List ℕ) → IsOther (reserved_word w)
 unfolding reserved_word
 reserved_other w =
     either_word (outline_word w) (or_else (body_word w) (setting_word w))
-    (either_word (item_word w) (or_else (goal_word w) (binder_word w)) (item_word_other w) (either_word (goal_word w) (binder_word w) (goal_word_other w) (binder_word_other w)))
+    (either_word (item_word w) (or_else (goal_word w) (binder_word w)) (table_other item_words w refl)
+    (either_word (goal_word w) (binder_word w) (table_other goal_words w refl) (table_other binder_words w refl)))
     (either_word (body_word w) (setting_word w)
-    (either_word (constraint_word w) (or_else (grouping_word w) (formula_word w)) (constraint_word_other w) (either_word (grouping_word w) (formula_word w) (grouping_word_other w) (formula_word_other w)))
-    (either_word (tag_word w) (or_else (level_word w) (branching_word w)) (tag_word_other w) (either_word (level_word w) (branching_word w) (level_word_other w) (branching_word_other w))))
+    (either_word (constraint_word w) (or_else (grouping_word w) (formula_word w)) (table_other constraint_words w refl)
+    (either_word (grouping_word w) (formula_word w) (table_other grouping_words w refl) (table_other formula_words w refl)))
+    (either_word (tag_word w) (or_else (level_word w) (branching_word w)) (table_other tag_words w refl)
+    (either_word (level_word w) (branching_word w) (table_other level_words w refl) (table_other branching_words w refl))))
 
 name_other : (o : Option Terminal) (w : List ℕ) → IsOther o → is_other (name_or_bad o w) ≡ true
 name_other (Some t) w h = h
-name_other None w h = sign_if (nat_le (length w) 64) terminal.Name terminal.Bad refl refl
+name_other None w h = sign_if (nat_le (length w) longest_name) terminal.Name terminal.Bad refl refl
 
 word_other : (w : List ℕ) → is_other (word_terminal w) ≡ true
 word_other w = name_other (reserved_word w) w (reserved_other w)

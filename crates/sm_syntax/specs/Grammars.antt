@@ -17,15 +17,15 @@ pub record Grammar : Type 0 where
   pub nullable : ℕ → Bool
 
 -- the right side is one of these
-abbrev pub IsOneOf : List (List Symbol) → List Symbol → Type 0
-IsOneOf [] x = ⊥
-IsOneOf (y ∷ ys) x = (y ≡ x) ⊎ IsOneOf ys x
+abbrev pub IsAlternative : List (List Symbol) → List Symbol → Type 0
+IsAlternative [] x = ⊥
+IsAlternative (y ∷ ys) x = (y ≡ x) ⊎ IsAlternative ys x
 
 -- the symbols derive the word
 pub data Derives (g : Grammar) : List Symbol → List ℕ → Type 0 where
   done : Derives g [] []
   token : (a : ℕ) (ss : List Symbol) (w : List ℕ) → Derives g ss w → Derives g (leaf a ∷ ss) (a ∷ w)
-  rule : (A : ℕ) (rhs ss : List Symbol) (w : List ℕ) → IsOneOf (g.alternatives A) rhs → Derives g (rhs ++ ss) w → Derives g (node A ∷ ss) w
+  rule : (A : ℕ) (rhs ss : List Symbol) (w : List ℕ) → IsAlternative (g.alternatives A) rhs → Derives g (rhs ++ ss) w → Derives g (node A ∷ ss) w
 
 abbrev pub is_among : ℕ → List ℕ → Bool
 is_among d xs = list_any (λ x. x == d) xs
@@ -69,10 +69,10 @@ FollowsIn g A (node X ∷ ss) = ((d : ℕ) → starts g ss d ≡ true → is_amo
 
 -- the tables are right, and one token decides each alternative
 pub record IsLl1 (g : Grammar) : Type 0 where
-  pub firsts : (A : ℕ) (rhs : List Symbol) → IsOneOf (g.alternatives A) rhs → (d : ℕ) → starts g rhs d ≡ true → is_among d (g.first A) ≡ true
-  pub empties : (A : ℕ) (rhs : List Symbol) → IsOneOf (g.alternatives A) rhs → vanishes g rhs ≡ true → g.nullable A ≡ true
-  pub follows : (A : ℕ) (rhs : List Symbol) → IsOneOf (g.alternatives A) rhs → FollowsIn g A rhs
-  pub one : (A : ℕ) (rhs : List Symbol) → IsOneOf (g.alternatives A) rhs → (d : ℕ) → selects g A rhs d ≡ true → predict g A d ≡ Some rhs
+  pub firsts : (A : ℕ) (rhs : List Symbol) → IsAlternative (g.alternatives A) rhs → (d : ℕ) → starts g rhs d ≡ true → is_among d (g.first A) ≡ true
+  pub empties : (A : ℕ) (rhs : List Symbol) → IsAlternative (g.alternatives A) rhs → vanishes g rhs ≡ true → g.nullable A ≡ true
+  pub follows : (A : ℕ) (rhs : List Symbol) → IsAlternative (g.alternatives A) rhs → FollowsIn g A rhs
+  pub one : (A : ℕ) (rhs : List Symbol) → IsAlternative (g.alternatives A) rhs → (d : ℕ) → selects g A rhs d ≡ true → predict g A d ≡ Some rhs
   pub ends : (A : ℕ) → (w : List ℕ) × Derives g (node A ∷ []) w
 
 -- ---- a grammar as a list of rows, and the test that one token of look-ahead serves

@@ -10,6 +10,6 @@ pub mod Reading
 pub mod Expressions
 pub mod Formulas
 pub mod Trees
-pub mod Steps
+pub mod TreeSteps
 pub mod Symbols
 pub mod Models

@@ -5,7 +5,7 @@ use Rattle.sm_syntax.specs.Grammars.{Derives}
 use Rattle.sm_syntax.specs.Grammar.{grammar, start}
 use Rattle.sm_syntax.specs.Parsing.{Builds, FirstBad, TooDeep, kinds}
 use Rattle.sm_syntax.specs.Trees.{Tree}
-use Rattle.sm_syntax.specs.Steps.{tree_then}
+use Rattle.sm_syntax.specs.TreeSteps.{tree_then}
 use Rattle.sm_syntax.specs.declared.place.Place.{Place}
 use Rattle.sm_syntax.specs.declared.failure.Failure.{Failure}
 use Rattle.sm_syntax.specs.declared.failure.Failure.TheVariants as failure

@@ -7,7 +7,7 @@ use Rattle.sm_syntax.specs.declared.terminal.Terminal.TheVariants as terminal
 use Rattle.sm_syntax.specs.Places.{start_place}
 use Rattle.sm_syntax.specs.Terminals.{code_of, opens, closes}
 use Rattle.sm_syntax.specs.Tokens.{Token}
-use Rattle.sm_syntax.specs.Grammars.{Symbol, leaf, node, Grammar, IsOneOf, Derives, predict}
+use Rattle.sm_syntax.specs.Grammars.{Symbol, leaf, node, Grammar, IsAlternative, Derives, predict}
 
 -- the number of a token's terminal
 abbrev pub kind : Token → ℕ
@@ -57,7 +57,7 @@ pub data Builds (g : Grammar) : List Symbol → List Token → List Step → Typ
   nothing : Builds g [] [] []
   reads : (a : ℕ) (t : Token) (ss : List Symbol) (ts : List Token) (steps all : List Step) → a ≡ kind t → all ≡ noted t steps
       → Builds g ss ts steps → Builds g (leaf a ∷ ss) (t ∷ ts) all
-  uses : (A : ℕ) (rhs ss : List Symbol) (ts : List Token) (steps all : List Step) → IsOneOf (g.alternatives A) rhs → all ≡ entered A rhs ts steps
+  uses : (A : ℕ) (rhs ss : List Symbol) (ts : List Token) (steps all : List Step) → IsAlternative (g.alternatives A) rhs → all ≡ entered A rhs ts steps
       → Builds g (rhs ++ ss) ts steps → Builds g (node A ∷ ss) ts all
 
 -- ---- the first bad token
@@ -97,19 +97,19 @@ pub record TooDeep (g : Grammar) (ss : List Symbol) (d : ℕ) (text : List Token
 -- ---- reading from the left
 
 -- the tokens were read to their end; or the rest begins with a bad token, or with a bracket that is too deep
-pub data Outcome : Type 0 where
-  accepted : Outcome
-  bad : List Token → Outcome
-  too_deep : List Token → Outcome
+pub data Halt : Type 0 where
+  accepted : Halt
+  bad : List Token → Halt
+  too_deep : List Token → Halt
 
 -- what reading tokens from the left comes to, with the symbols that are to come and the number of open brackets
-pub data Run (g : Grammar) : List Symbol → ℕ → List Token → Outcome → Type 0 where
+pub data Run (g : Grammar) : List Symbol → ℕ → List Token → Halt → Type 0 where
   whole : (d : ℕ) → Run g [] d [] accepted
   more : (d : ℕ) (t : Token) (ts : List Token) → Run g [] d (t ∷ ts) (bad (t ∷ ts))
-  eats : (a : ℕ) (ss : List Symbol) (d : ℕ) (t : Token) (ts : List Token) (o : Outcome) → a ≡ kind t → is_too_deep d (kind t) ≡ false
+  eats : (a : ℕ) (ss : List Symbol) (d : ℕ) (t : Token) (ts : List Token) (o : Halt) → a ≡ kind t → is_too_deep d (kind t) ≡ false
       → Run g ss (depth_after d (kind t)) ts o → Run g (leaf a ∷ ss) d (t ∷ ts) o
   stops : (a : ℕ) (ss : List Symbol) (d : ℕ) (t : Token) (ts : List Token) → a ≡ kind t → is_too_deep d (kind t) ≡ true
       → Run g (leaf a ∷ ss) d (t ∷ ts) (too_deep (t ∷ ts))
   other : (a : ℕ) (ss : List Symbol) (d : ℕ) (t : Token) (ts : List Token) → a ≢ kind t → Run g (leaf a ∷ ss) d (t ∷ ts) (bad (t ∷ ts))
-  takes : (A : ℕ) (rhs ss : List Symbol) (d : ℕ) (t : Token) (ts : List Token) (o : Outcome) → predict g A (kind t) ≡ Some rhs
+  takes : (A : ℕ) (rhs ss : List Symbol) (d : ℕ) (t : Token) (ts : List Token) (o : Halt) → predict g A (kind t) ≡ Some rhs
       → Run g (rhs ++ ss) d (t ∷ ts) o → Run g (node A ∷ ss) d (t ∷ ts) o

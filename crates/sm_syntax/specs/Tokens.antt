@@ -1,8 +1,9 @@
 -- How a text is cut into tokens.
 use Rattle.std.specs.Prelude.{ℕ, zero, suc, ◌+◌, ◌-◌, ◌*◌, ◌==◌, ◌&&◌, ◌||◌, Bool, false, not, List, [], ◌∷◌, Option, Some, None, codes, fold, length, nat_le, take, if◌then◌else◌}
 use Rattle.std.specs.List.{prefix_len}
-use Rattle.std.specs.Int.{is_in_range}
 use Rattle.std.specs.Str.{bytes_eq}
+use Rattle.sm_words.specs.Letters.{is_digit, is_in_word, is_letter}
+use Rattle.sm_words.specs.Names.{longest_name}
 use Rattle.sm_syntax.specs.declared.place.Place.{Place}
 use Rattle.sm_syntax.specs.declared.terminal.Terminal.{Terminal}
 use Rattle.sm_syntax.specs.declared.terminal.Terminal.TheVariants as terminal
@@ -28,18 +29,6 @@ is_blank b = b == 32 || (b == 9 || (b == 13 || b == 10))
 abbrev pub is_in_line : ℕ → Bool
 is_in_line b = not (b == 10)
 
--- the digits are the bytes from `0` to `9`
-abbrev pub is_digit : ℕ → Bool
-is_digit b = is_in_range 48 57 b
-
--- a name begins with a letter or `_`
-abbrev pub is_letter : ℕ → Bool
-is_letter b = is_in_range 65 90 b || (is_in_range 97 122 b || b == 95)
-
--- and goes on with letters, digits and `_`
-abbrev pub is_in_name : ℕ → Bool
-is_in_name b = is_letter b || is_digit b
-
 -- ---- pieces
 
 -- what a byte begins; 35 is `#`
@@ -55,7 +44,7 @@ is_long_sign b (d ∷ ds) = (b == 46 && d == 46) || (d == 61 && (b == 60 || (b =
 abbrev pub length_behind : Piece → ℕ → List ℕ → ℕ
 length_behind Blank b bs = 0
 length_behind Comment b bs = prefix_len is_in_line bs
-length_behind Word b bs = prefix_len is_in_name bs
+length_behind Word b bs = prefix_len is_in_word bs
 length_behind Digits b bs = prefix_len is_digit bs
 length_behind Sign b bs = if is_long_sign b bs then 1 else 0
 
@@ -65,10 +54,10 @@ place_behind p b bytes = if b == 10 then next_line p else along p bytes
 
 -- ---- tokens
 
--- a word that isn't reserved is a name, of at most 64 bytes
+-- a word that isn't reserved is a name, if it isn't too long for one
 abbrev pub name_or_bad : Option Terminal → List ℕ → Terminal
 name_or_bad (Some t) word = t
-name_or_bad None word = if nat_le (length word) 64 then terminal.Name else terminal.Bad
+name_or_bad None word = if nat_le (length word) longest_name then terminal.Name else terminal.Bad
 
 abbrev pub word_terminal : List ℕ → Terminal
 word_terminal word = name_or_bad (reserved_word word) word

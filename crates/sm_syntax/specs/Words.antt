@@ -1,5 +1,5 @@
 -- The reserved words.
-use Rattle.std.specs.Prelude.{ℕ, List, Option, Some, None, codes, if◌then◌else◌}
+use Rattle.std.specs.Prelude.{ℕ, List, [], ◌∷◌, Option, Some, None, codes, if◌then◌else◌}
 use Rattle.std.specs.Str.{bytes_eq}
 use Rattle.sm_syntax.specs.declared.terminal.Terminal.{Terminal}
 use Rattle.sm_syntax.specs.declared.terminal.Terminal.TheVariants as terminal
@@ -9,98 +9,95 @@ abbrev pub or_else : Option Terminal → Option Terminal → Option Terminal
 or_else None other = other
 or_else (Some t) other = Some t
 
--- a word of an item
+-- words with their terminals
+abbrev pub WordTable : Type 0
+WordTable = List (List ℕ × Terminal)
+
+-- the terminal of a word of the table
+abbrev pub terminal_in : WordTable → List ℕ → Option Terminal
+terminal_in [] w = None
+terminal_in (e ∷ es) w = if bytes_eq w e.0 then Some e.1 else terminal_in es w
+
+-- the words of an item
+abbrev pub item_words : WordTable
+item_words =
+    (codes "index", terminal.Index) ∷ (codes "var", terminal.Var) ∷ (codes "post", terminal.Post)
+    ∷ (codes "forall", terminal.Forall) ∷ (codes "set", terminal.Set) ∷ (codes "int", terminal.Int)
+    ∷ (codes "real", terminal.Real) ∷ []
+
 abbrev pub item_word : List ℕ → Option Terminal
-item_word w =
-    if bytes_eq w (codes "index") then Some terminal.Index
-    else (if bytes_eq w (codes "var") then Some terminal.Var
-    else (if bytes_eq w (codes "post") then Some terminal.Post
-    else (if bytes_eq w (codes "forall") then Some terminal.Forall
-    else (if bytes_eq w (codes "set") then Some terminal.Set
-    else (if bytes_eq w (codes "int") then Some terminal.Int
-    else (if bytes_eq w (codes "real") then Some terminal.Real
-    else None))))))
+item_word w = terminal_in item_words w
 
--- a word of a goal
+-- the words of a goal
+abbrev pub goal_words : WordTable
+goal_words =
+    (codes "satisfy", terminal.Satisfy) ∷ (codes "minimise", terminal.Minimise) ∷ (codes "maximise", terminal.Maximise) ∷ []
+
 abbrev pub goal_word : List ℕ → Option Terminal
-goal_word w =
-    if bytes_eq w (codes "satisfy") then Some terminal.Satisfy
-    else (if bytes_eq w (codes "minimise") then Some terminal.Minimise
-    else (if bytes_eq w (codes "maximise") then Some terminal.Maximise
-    else None))
+goal_word w = terminal_in goal_words w
 
--- a word of binders and sums
+-- the words of binders and sums
+abbrev pub binder_words : WordTable
+binder_words =
+    (codes "if", terminal.If) ∷ (codes "and", terminal.And) ∷ (codes "in", terminal.In)
+    ∷ (codes "for", terminal.For) ∷ (codes "sum", terminal.Sum) ∷ []
+
 abbrev pub binder_word : List ℕ → Option Terminal
-binder_word w =
-    if bytes_eq w (codes "if") then Some terminal.If
-    else (if bytes_eq w (codes "and") then Some terminal.And
-    else (if bytes_eq w (codes "in") then Some terminal.In
-    else (if bytes_eq w (codes "for") then Some terminal.For
-    else (if bytes_eq w (codes "sum") then Some terminal.Sum
-    else None))))
+binder_word w = terminal_in binder_words w
 
--- a word of a constraint
+-- the words of a constraint
+abbrev pub constraint_words : WordTable
+constraint_words =
+    (codes "logic", terminal.Logic) ∷ (codes "when", terminal.When) ∷ (codes "then", terminal.Then)
+    ∷ (codes "alldiff", terminal.Alldiff) ∷ (codes "circuit", terminal.Circuit) ∷ (codes "element", terminal.Element) ∷ []
+
 abbrev pub constraint_word : List ℕ → Option Terminal
-constraint_word w =
-    if bytes_eq w (codes "logic") then Some terminal.Logic
-    else (if bytes_eq w (codes "when") then Some terminal.When
-    else (if bytes_eq w (codes "then") then Some terminal.Then
-    else (if bytes_eq w (codes "alldiff") then Some terminal.Alldiff
-    else (if bytes_eq w (codes "circuit") then Some terminal.Circuit
-    else (if bytes_eq w (codes "element") then Some terminal.Element
-    else None)))))
+constraint_word w = terminal_in constraint_words w
 
--- a word of a constraint over choices, tasks or groups
+-- the words of a constraint over choices, tasks or groups
+abbrev pub grouping_words : WordTable
+grouping_words =
+    (codes "indexsum", terminal.Indexsum) ∷ (codes "assign", terminal.Assign) ∷ (codes "cumulative", terminal.Cumulative)
+    ∷ (codes "disjunctive", terminal.Disjunctive) ∷ (codes "packing", terminal.Packing) ∷ []
+
 abbrev pub grouping_word : List ℕ → Option Terminal
-grouping_word w =
-    if bytes_eq w (codes "indexsum") then Some terminal.Indexsum
-    else (if bytes_eq w (codes "assign") then Some terminal.Assign
-    else (if bytes_eq w (codes "cumulative") then Some terminal.Cumulative
-    else (if bytes_eq w (codes "disjunctive") then Some terminal.Disjunctive
-    else (if bytes_eq w (codes "packing") then Some terminal.Packing
-    else None))))
+grouping_word w = terminal_in grouping_words w
 
--- a word of a formula
+-- the words of a formula
+abbrev pub formula_words : WordTable
+formula_words =
+    (codes "implies", terminal.Implies) ∷ (codes "iff", terminal.Iff) ∷ (codes "or", terminal.Or)
+    ∷ (codes "not", terminal.Not) ∷ (codes "all", terminal.All) ∷ (codes "any", terminal.Any) ∷ []
+
 abbrev pub formula_word : List ℕ → Option Terminal
-formula_word w =
-    if bytes_eq w (codes "implies") then Some terminal.Implies
-    else (if bytes_eq w (codes "iff") then Some terminal.Iff
-    else (if bytes_eq w (codes "or") then Some terminal.Or
-    else (if bytes_eq w (codes "not") then Some terminal.Not
-    else (if bytes_eq w (codes "all") then Some terminal.All
-    else (if bytes_eq w (codes "any") then Some terminal.Any
-    else None)))))
+formula_word w = terminal_in formula_words w
 
--- a word that begins a tag
+-- the words that begin a tag
+abbrev pub tag_words : WordTable
+tag_words =
+    (codes "infer", terminal.Infer) ∷ (codes "relax", terminal.Relax) ∷ (codes "branch", terminal.Branch)
+    ∷ (codes "pick", terminal.Pick) ∷ (codes "split", terminal.Split) ∷ (codes "sub", terminal.Sub) ∷ []
+
 abbrev pub tag_word : List ℕ → Option Terminal
-tag_word w =
-    if bytes_eq w (codes "infer") then Some terminal.Infer
-    else (if bytes_eq w (codes "relax") then Some terminal.Relax
-    else (if bytes_eq w (codes "branch") then Some terminal.Branch
-    else (if bytes_eq w (codes "pick") then Some terminal.Pick
-    else (if bytes_eq w (codes "split") then Some terminal.Split
-    else (if bytes_eq w (codes "sub") then Some terminal.Sub
-    else None)))))
+tag_word w = terminal_in tag_words w
 
--- a word of a level, or of whether a row is relaxed
+-- the words of a level, or of whether a row is relaxed
+abbrev pub level_words : WordTable
+level_words =
+    (codes "none", terminal.None) ∷ (codes "bounds", terminal.Bounds) ∷ (codes "full", terminal.Full)
+    ∷ (codes "on", terminal.On) ∷ []
+
 abbrev pub level_word : List ℕ → Option Terminal
-level_word w =
-    if bytes_eq w (codes "none") then Some terminal.None
-    else (if bytes_eq w (codes "bounds") then Some terminal.Bounds
-    else (if bytes_eq w (codes "full") then Some terminal.Full
-    else (if bytes_eq w (codes "on") then Some terminal.On
-    else None)))
+level_word w = terminal_in level_words w
 
--- a word of how a variable is picked, or its domain split
+-- the words of how a variable is picked, or its domain split
+abbrev pub branching_words : WordTable
+branching_words =
+    (codes "first", terminal.First) ∷ (codes "small", terminal.Small) ∷ (codes "point", terminal.Point)
+    ∷ (codes "half", terminal.Half) ∷ (codes "least", terminal.Least) ∷ (codes "most", terminal.Most) ∷ []
+
 abbrev pub branching_word : List ℕ → Option Terminal
-branching_word w =
-    if bytes_eq w (codes "first") then Some terminal.First
-    else (if bytes_eq w (codes "small") then Some terminal.Small
-    else (if bytes_eq w (codes "point") then Some terminal.Point
-    else (if bytes_eq w (codes "half") then Some terminal.Half
-    else (if bytes_eq w (codes "least") then Some terminal.Least
-    else (if bytes_eq w (codes "most") then Some terminal.Most
-    else None)))))
+branching_word w = terminal_in branching_words w
 
 -- a reserved word of a model's outline or of its binders
 abbrev pub outline_word : List ℕ → Option Terminal

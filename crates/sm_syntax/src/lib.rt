@@ -1,9 +1,11 @@
 //! The reader of the model language: a text to its tree, or its first bad token.
 #![tactic(auto)]
 
-ghost use Rattle.std.specs.Prelude.{◌≡◌, ℕ, Err, IfOk};
+ghost use Rattle.std.specs.Prelude.{◌≡◌, ℕ, Err, IfOk, is_some};
+ghost use Rattle.sm_words.specs.Names.{is_reserved};
 ghost use Rattle.sm_syntax.specs.Models.{Bytes, IsModel, IsTreeOf, IsFirstBad, IsTooDeep, refusal_at};
 ghost use Rattle.sm_syntax.specs.Trees.{tree_of, Tree as PlainTree};
+ghost use Rattle.sm_syntax.specs.Words.{reserved_word};
 
 mod expression;
 mod failure;
@@ -96,4 +98,9 @@ pub fn one_tree()
 pub fn one_first_bad()
     ensures one { (text : Bytes) (a b : Place) → IsFirstBad text a → IsFirstBad text b → a ≡ b }
     ensures none { (text : Bytes) (place : Place) → IsModel text → IsFirstBad text place → ⊥ }
+{}
+
+/// A law: the words that have a terminal of their own are the reserved ones, of which none is a name.
+pub fn reserved_words()
+    ensures { (word : Bytes) → is_some (reserved_word word) ≡ is_reserved word }
 {}

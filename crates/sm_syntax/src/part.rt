@@ -4,7 +4,7 @@ ghost use Rattle.sm_syntax.specs.declared.terminal.Terminal.{Terminal as Kind};
 ghost use Rattle.sm_syntax.specs.Terminals.{code_of, opens, closes};
 ghost use Rattle.sm_syntax.specs.Grammars.{Symbol, leaf};
 ghost use Rattle.sm_syntax.specs.Parsing.{Step};
-ghost use Rattle.sm_syntax.specs.Reading.{is_plain, unlisted, Reads};
+ghost use Rattle.sm_syntax.specs.Reading.{is_plain, unlisted, ReadsWhole};
 
 use crate::failure::Failure;
 use crate::reader::Reader;
@@ -23,7 +23,7 @@ pub trait Part: Sized + Drop {
 
     /// Reads it.
     fn read(alloc: Global, reader: &mut Reader<'_>) -> Result<Self, Failure>
-        ensures { Reads reader.old symbols steps reader.new result };
+        ensures { ReadsWhole reader.old symbols steps reader.new result };
 }
 
 /// One part, and then another.
@@ -108,7 +108,7 @@ pub fn read_behind<P: Part>(
     word: Terminal,
 ) -> Result<P, Failure>
     requires { is_plain word ≡ true }
-    ensures read { Reads reader.old (leaf (code_of word) ∷ P.symbols) P.steps reader.new result }
+    ensures read { ReadsWhole reader.old (leaf (code_of word) ∷ P.symbols) P.steps reader.new result }
     ensures shorter { OnOk result (length reader.new.later < length reader.old.later) }
 {
     reader.expect(word)?;

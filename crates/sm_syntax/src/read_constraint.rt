@@ -1,10 +1,10 @@
 //! Reading constraints.
 ghost use Rattle.std.specs.Prelude.{◌≡◌, ◌∷◌, [], map};
 ghost use Rattle.sm_syntax.specs.Grammar as g;
-ghost use Rattle.sm_syntax.specs.Reading.{State, Leads, Reads, Chooses};
+ghost use Rattle.sm_syntax.specs.Reading.{Standing, Leads, ReadsWhole, Chooses};
 ghost use Rattle.sm_syntax.specs.Expressions.{literal_of};
 ghost use Rattle.sm_syntax.specs.Trees.{constraint_of};
-ghost use Rattle.sm_syntax.specs.Steps.{cmp_then, more_lits_then, choosing_then, constraint_then};
+ghost use Rattle.sm_syntax.specs.TreeSteps.{cmp_then, more_lits_then, choosing_then, constraint_then};
 ghost use Rattle.sm_syntax.specs.Symbols.{choosing_of};
 
 use crate::expression::Expr;
@@ -22,7 +22,7 @@ use std::alloc::Global;
 /// Reads that a row is at most its right side.
 fn read_at_most(reader: &mut Reader<'_>) -> Result<Cmp, Failure>
     requires { Chooses reader.old g.cmp (g.token_at_most ∷ []) }
-    ensures { Reads reader.old (g.cmp ∷ []) cmp_then reader.new result }
+    ensures { ReadsWhole reader.old (g.cmp ∷ []) cmp_then reader.new result }
 {
     let place = reader.place();
     reader.expect(Terminal::AtMost)?;
@@ -32,7 +32,7 @@ fn read_at_most(reader: &mut Reader<'_>) -> Result<Cmp, Failure>
 /// Reads that a row is at least its right side.
 fn read_at_least(reader: &mut Reader<'_>) -> Result<Cmp, Failure>
     requires { Chooses reader.old g.cmp (g.token_at_least ∷ []) }
-    ensures { Reads reader.old (g.cmp ∷ []) cmp_then reader.new result }
+    ensures { ReadsWhole reader.old (g.cmp ∷ []) cmp_then reader.new result }
 {
     let place = reader.place();
     reader.expect(Terminal::AtLeast)?;
@@ -42,7 +42,7 @@ fn read_at_least(reader: &mut Reader<'_>) -> Result<Cmp, Failure>
 /// Reads that a row equals its right side.
 fn read_equal(reader: &mut Reader<'_>) -> Result<Cmp, Failure>
     requires { Chooses reader.old g.cmp (g.token_equal ∷ []) }
-    ensures { Reads reader.old (g.cmp ∷ []) cmp_then reader.new result }
+    ensures { ReadsWhole reader.old (g.cmp ∷ []) cmp_then reader.new result }
 {
     let place = reader.place();
     reader.expect(Terminal::Equal)?;
@@ -51,7 +51,7 @@ fn read_equal(reader: &mut Reader<'_>) -> Result<Cmp, Failure>
 
 /// Reads the comparison of a row.
 fn read_cmp(reader: &mut Reader<'_>) -> Result<Cmp, Failure>
-    ensures { Reads reader.old (g.cmp ∷ []) cmp_then reader.new result }
+    ensures { ReadsWhole reader.old (g.cmp ∷ []) cmp_then reader.new result }
 {
     match reader.terminal() {
         Terminal::AtLeast => read_at_least(reader),
@@ -73,7 +73,7 @@ impl Part for Cmp {
 /// Reads a linear constraint.
 fn read_linear(alloc: Global, reader: &mut Reader<'_>) -> Result<Cons, Failure>
     requires { Chooses reader.old g.cons (g.expr ∷ g.cmp ∷ g.expr ∷ []) }
-    ensures { Reads reader.old (g.cons ∷ []) (λ x. constraint_then (constraint_of x)) reader.new result }
+    ensures { ReadsWhole reader.old (g.cons ∷ []) (λ x. constraint_then (constraint_of x)) reader.new result }
 {
     let place = reader.place();
     let parts = Pair::<Expr, Pair<Cmp, Expr>>::read(alloc, reader)?;
@@ -89,7 +89,7 @@ fn read_linear(alloc: Global, reader: &mut Reader<'_>) -> Result<Cons, Failure>
 /// Reads a formula as a constraint.
 fn read_logic(alloc: Global, reader: &mut Reader<'_>) -> Result<Cons, Failure>
     requires { Chooses reader.old g.cons (g.token_logic ∷ g.formula ∷ []) }
-    ensures { Reads reader.old (g.cons ∷ []) (λ x. constraint_then (constraint_of x)) reader.new result }
+    ensures { ReadsWhole reader.old (g.cons ∷ []) (λ x. constraint_then (constraint_of x)) reader.new result }
 {
     let place = reader.place();
     let formula = read_behind::<Formula>(alloc, reader, Terminal::Logic)?;
@@ -117,7 +117,7 @@ type WhenParts = Pair<Lit, Pair<Items<Lit>, Pair<Mark<Then>, Pair<Expr, Pair<Cmp
 /// Reads a row that holds under a condition.
 fn read_when(alloc: Global, reader: &mut Reader<'_>) -> Result<Cons, Failure>
     requires { Chooses reader.old g.cons (g.token_when ∷ g.lit ∷ g.more_lits ∷ g.token_then ∷ g.expr ∷ g.cmp ∷ g.expr ∷ []) }
-    ensures { Reads reader.old (g.cons ∷ []) (λ x. constraint_then (constraint_of x)) reader.new result }
+    ensures { ReadsWhole reader.old (g.cons ∷ []) (λ x. constraint_then (constraint_of x)) reader.new result }
 {
     let place = reader.place();
     let parts = read_behind::<WhenParts>(alloc, reader, Terminal::When)?;
@@ -135,7 +135,7 @@ fn read_when(alloc: Global, reader: &mut Reader<'_>) -> Result<Cons, Failure>
 /// Reads variables that all differ.
 fn read_alldiff(alloc: Global, reader: &mut Reader<'_>) -> Result<Cons, Failure>
     requires { Chooses reader.old g.cons (g.token_alldiff ∷ g.token_open_round ∷ g.list ∷ g.token_close_round ∷ []) }
-    ensures { Reads reader.old (g.cons ∷ []) (λ x. constraint_then (constraint_of x)) reader.new result }
+    ensures { ReadsWhole reader.old (g.cons ∷ []) (λ x. constraint_then (constraint_of x)) reader.new result }
 {
     let place = reader.place();
     let parts = read_behind::<Within<Round, List>>(alloc, reader, Terminal::Alldiff)?;
@@ -146,7 +146,7 @@ fn read_alldiff(alloc: Global, reader: &mut Reader<'_>) -> Result<Cons, Failure>
 /// Reads a circuit.
 fn read_circuit(alloc: Global, reader: &mut Reader<'_>) -> Result<Cons, Failure>
     requires { Chooses reader.old g.cons (g.token_circuit ∷ g.token_open_round ∷ g.list ∷ g.token_close_round ∷ []) }
-    ensures { Reads reader.old (g.cons ∷ []) (λ x. constraint_then (constraint_of x)) reader.new result }
+    ensures { ReadsWhole reader.old (g.cons ∷ []) (λ x. constraint_then (constraint_of x)) reader.new result }
 {
     let place = reader.place();
     let parts = read_behind::<Within<Round, List>>(alloc, reader, Terminal::Circuit)?;
@@ -163,7 +163,7 @@ type ElementParts = Within<
 /// Reads an element constraint.
 fn read_element(alloc: Global, reader: &mut Reader<'_>) -> Result<Cons, Failure>
     requires { Chooses reader.old g.cons (g.token_element ∷ g.token_open_round ∷ g.expr ∷ g.token_comma ∷ g.token_open_square ∷ g.list ∷ g.token_close_square ∷ g.token_comma ∷ g.expr ∷ g.token_close_round ∷ []) }
-    ensures { Reads reader.old (g.cons ∷ []) (λ x. constraint_then (constraint_of x)) reader.new result }
+    ensures { ReadsWhole reader.old (g.cons ∷ []) (λ x. constraint_then (constraint_of x)) reader.new result }
 {
     let place = reader.place();
     let parts = read_behind::<ElementParts>(alloc, reader, Terminal::Element)?;
@@ -189,7 +189,7 @@ fn choosing_of(terminal: Terminal) -> Option<Choosing>
 
 /// Reads how entries are chosen.
 fn read_choosing(reader: &mut Reader<'_>) -> Result<Choosing, Failure>
-    ensures { Reads reader.old (g.choosing ∷ []) choosing_then reader.new result }
+    ensures { ReadsWhole reader.old (g.choosing ∷ []) choosing_then reader.new result }
 {
     let terminal = reader.terminal();
     let Some(choosing) = choosing_of(terminal) else {
@@ -215,7 +215,7 @@ type ChosenParts = Pair<Choosing, Within<Round, Pair<Expr, Items<Choice>>>>;
 /// Reads a sum of chosen entries.
 fn read_chosen(alloc: Global, reader: &mut Reader<'_>) -> Result<Cons, Failure>
     requires { Chooses reader.old g.cons (g.choosing ∷ g.token_open_round ∷ g.expr ∷ g.choices ∷ g.token_close_round ∷ []) }
-    ensures { Reads reader.old (g.cons ∷ []) (λ x. constraint_then (constraint_of x)) reader.new result }
+    ensures { ReadsWhole reader.old (g.cons ∷ []) (λ x. constraint_then (constraint_of x)) reader.new result }
 {
     let place = reader.place();
     let parts = ChosenParts::read(alloc, reader)?;
@@ -234,7 +234,7 @@ type CumulativeParts = Within<Round, Pair<Expr, Items<Ctask>>>;
 /// Reads tasks that share a capacity.
 fn read_cumulative(alloc: Global, reader: &mut Reader<'_>) -> Result<Cons, Failure>
     requires { Chooses reader.old g.cons (g.token_cumulative ∷ g.token_open_round ∷ g.expr ∷ g.ctasks ∷ g.token_close_round ∷ []) }
-    ensures { Reads reader.old (g.cons ∷ []) (λ x. constraint_then (constraint_of x)) reader.new result }
+    ensures { ReadsWhole reader.old (g.cons ∷ []) (λ x. constraint_then (constraint_of x)) reader.new result }
 {
     let place = reader.place();
     let parts = read_behind::<CumulativeParts>(alloc, reader, Terminal::Cumulative)?;
@@ -252,7 +252,7 @@ type DisjunctiveParts = Within<Round, Pair<Dtask, Items<Dtask>>>;
 /// Reads tasks of which no two may run at once.
 fn read_disjunctive(alloc: Global, reader: &mut Reader<'_>) -> Result<Cons, Failure>
     requires { Chooses reader.old g.cons (g.token_disjunctive ∷ g.token_open_round ∷ g.dtask ∷ g.more_dtasks ∷ g.token_close_round ∷ []) }
-    ensures { Reads reader.old (g.cons ∷ []) (λ x. constraint_then (constraint_of x)) reader.new result }
+    ensures { ReadsWhole reader.old (g.cons ∷ []) (λ x. constraint_then (constraint_of x)) reader.new result }
 {
     let place = reader.place();
     let parts = read_behind::<DisjunctiveParts>(alloc, reader, Terminal::Disjunctive)?;
@@ -269,7 +269,7 @@ type PackingParts = Within<
 /// Reads a packing.
 fn read_packing(alloc: Global, reader: &mut Reader<'_>) -> Result<Cons, Failure>
     requires { Chooses reader.old g.cons (g.token_packing ∷ g.token_open_round ∷ g.expr ∷ g.token_semicolon ∷ g.token_open_square ∷ g.list ∷ g.token_close_square ∷ g.token_semicolon ∷ g.token_open_square ∷ g.list ∷ g.token_close_square ∷ g.loads ∷ g.token_close_round ∷ []) }
-    ensures { Reads reader.old (g.cons ∷ []) (λ x. constraint_then (constraint_of x)) reader.new result }
+    ensures { ReadsWhole reader.old (g.cons ∷ []) (λ x. constraint_then (constraint_of x)) reader.new result }
 {
     let place = reader.place();
     let parts = read_behind::<PackingParts>(alloc, reader, Terminal::Packing)?;
@@ -288,7 +288,7 @@ fn read_packing(alloc: Global, reader: &mut Reader<'_>) -> Result<Cons, Failure>
 
 /// Reads a constraint.
 fn read_cons(alloc: Global, reader: &mut Reader<'_>) -> Result<Cons, Failure>
-    ensures { Reads reader.old (g.cons ∷ []) (λ x. constraint_then (constraint_of x)) reader.new result }
+    ensures { ReadsWhole reader.old (g.cons ∷ []) (λ x. constraint_then (constraint_of x)) reader.new result }
 {
     match reader.terminal() {
         Terminal::Logic => read_logic(alloc, reader),

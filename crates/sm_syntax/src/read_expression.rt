@@ -2,9 +2,9 @@
 ghost use Rattle.std.specs.Prelude.{◌≡◌, ◌<◌, ◌∷◌, [], None, Some, IfSome, IfNone, IfOk, OnOk, length, map};
 ghost use Rattle.sm_syntax.specs.Grammars.{leaf, predict};
 ghost use Rattle.sm_syntax.specs.Grammar as g;
-ghost use Rattle.sm_syntax.specs.Reading.{State, next, Leads, Reads, Chooses};
+ghost use Rattle.sm_syntax.specs.Reading.{Standing, next, Leads, ReadsWhole, Chooses};
 ghost use Rattle.sm_syntax.specs.Expressions.{expression_of, binding_of, factor_of, term_of, test_of, addends_of, operands_of, addend_of, expressions_of, comparisons_of};
-ghost use Rattle.sm_syntax.specs.Steps.{sign_then, minus_then, relation_then, bind_then, list_then, more_exprs_then, expression_then, addends_then, product_then, operand_then, operands_then, indices_then, binding_then, tests_then, comparisons_then, comparison_then};
+ghost use Rattle.sm_syntax.specs.TreeSteps.{sign_then, minus_then, relation_then, bind_then, list_then, more_exprs_then, expression_then, addends_then, product_then, operand_then, operands_then, indices_then, binding_then, tests_then, comparisons_then, comparison_then};
 ghost use Rattle.sm_syntax.specs.Symbols.{sign_of, relation_of, begins_sign};
 
 use crate::expression::{Addend, Binders, Expr, Factor, Term, Test};
@@ -30,7 +30,7 @@ fn sign_of(terminal: Terminal) -> Option<Sign>
 
 /// Reads the sign before a further term.
 fn read_sign(reader: &mut Reader<'_>) -> Result<Sign, Failure>
-    ensures read { Reads reader.old (g.sign ∷ []) sign_then reader.new result }
+    ensures read { ReadsWhole reader.old (g.sign ∷ []) sign_then reader.new result }
     ensures shorter { OnOk result (length reader.new.later < length reader.old.later) }
 {
     let terminal = reader.terminal();
@@ -75,7 +75,7 @@ fn relation_of(terminal: Terminal) -> Option<Relation>
 
 /// Reads the relation of a test.
 fn read_relation(reader: &mut Reader<'_>) -> Result<Relation, Failure>
-    ensures { Reads reader.old (g.relation ∷ []) relation_then reader.new result }
+    ensures { ReadsWhole reader.old (g.relation ∷ []) relation_then reader.new result }
 {
     let terminal = reader.terminal();
     let Some(relation) = relation_of(terminal) else {
@@ -119,7 +119,7 @@ impl Part for Items<Bind> {
 /// Reads an expression.
 #[cycle(expression)]
 fn read_expr(alloc: Global, reader: &mut Reader<'_>) -> Result<Expr, Failure>
-    ensures { Reads reader.old (g.expr ∷ []) (λ x. expression_then (expression_of x)) reader.new result }
+    ensures { ReadsWhole reader.old (g.expr ∷ []) (λ x. expression_then (expression_of x)) reader.new result }
 {
     let place = reader.place();
     let is_negated = read_minus(reader);
@@ -131,7 +131,7 @@ fn read_expr(alloc: Global, reader: &mut Reader<'_>) -> Result<Expr, Failure>
 /// Reads the further terms of an expression.
 #[cycle(expression)]
 fn read_more_terms(alloc: Global, reader: &mut Reader<'_>) -> Result<Items<Addend>, Failure>
-    ensures { Reads reader.old (g.more_terms ∷ []) (λ xs. addends_then (addends_of (map addend_of xs))) reader.new result }
+    ensures { ReadsWhole reader.old (g.more_terms ∷ []) (λ xs. addends_then (addends_of (map addend_of xs))) reader.new result }
 {
     let mut terms = Items::new(alloc);
     'terms: while begins_sign(reader.terminal()) {
@@ -146,7 +146,7 @@ fn read_more_terms(alloc: Global, reader: &mut Reader<'_>) -> Result<Items<Adden
 /// Reads a term.
 #[cycle(expression)]
 fn read_term(alloc: Global, reader: &mut Reader<'_>) -> Result<Term, Failure>
-    ensures { Reads reader.old (g.term ∷ []) (λ x. product_then (term_of x)) reader.new result }
+    ensures { ReadsWhole reader.old (g.term ∷ []) (λ x. product_then (term_of x)) reader.new result }
 {
     let place = reader.place();
     let first = read_factor(alloc, reader)?;
@@ -157,7 +157,7 @@ fn read_term(alloc: Global, reader: &mut Reader<'_>) -> Result<Term, Failure>
 /// Reads the further factors of a term.
 #[cycle(expression)]
 fn read_more_factors(alloc: Global, reader: &mut Reader<'_>) -> Result<Items<Factor>, Failure>
-    ensures { Reads reader.old (g.more_factors ∷ []) (λ xs. operands_then (operands_of (map factor_of xs))) reader.new result }
+    ensures { ReadsWhole reader.old (g.more_factors ∷ []) (λ xs. operands_then (operands_of (map factor_of xs))) reader.new result }
 {
     let mut factors = Items::new(alloc);
     'factors: while reader.accept(Terminal::Times) {
@@ -170,7 +170,7 @@ fn read_more_factors(alloc: Global, reader: &mut Reader<'_>) -> Result<Items<Fac
 /// Reads a factor.
 #[cycle(expression)]
 fn read_factor(alloc: Global, reader: &mut Reader<'_>) -> Result<Factor, Failure>
-    ensures { Reads reader.old (g.factor ∷ []) (λ x. operand_then (factor_of x)) reader.new result }
+    ensures { ReadsWhole reader.old (g.factor ∷ []) (λ x. operand_then (factor_of x)) reader.new result }
 {
     match reader.terminal() {
         Terminal::Name => read_named(alloc, reader),
@@ -183,7 +183,7 @@ fn read_factor(alloc: Global, reader: &mut Reader<'_>) -> Result<Factor, Failure
 /// Reads a number as a factor.
 fn read_numeral(reader: &mut Reader<'_>) -> Result<Factor, Failure>
     requires { Chooses reader.old g.factor (g.token_number ∷ []) }
-    ensures { Reads reader.old (g.factor ∷ []) (λ x. operand_then (factor_of x)) reader.new result }
+    ensures { ReadsWhole reader.old (g.factor ∷ []) (λ x. operand_then (factor_of x)) reader.new result }
 {
     let place = reader.place();
     let number = reader.number()?;
@@ -194,7 +194,7 @@ fn read_numeral(reader: &mut Reader<'_>) -> Result<Factor, Failure>
 #[cycle(expression)]
 fn read_named(alloc: Global, reader: &mut Reader<'_>) -> Result<Factor, Failure>
     requires { Chooses reader.old g.factor (g.token_name ∷ g.indices ∷ []) }
-    ensures { Reads reader.old (g.factor ∷ []) (λ x. operand_then (factor_of x)) reader.new result }
+    ensures { ReadsWhole reader.old (g.factor ∷ []) (λ x. operand_then (factor_of x)) reader.new result }
 {
     let place = reader.place();
     let name = reader.name(alloc)?;
@@ -205,7 +205,7 @@ fn read_named(alloc: Global, reader: &mut Reader<'_>) -> Result<Factor, Failure>
 /// Reads the indices that may stand behind a name.
 #[cycle(expression)]
 fn read_indices(alloc: Global, reader: &mut Reader<'_>) -> Result<Items<Expr>, Failure>
-    ensures { Reads reader.old (g.indices ∷ []) (λ xs. indices_then (expressions_of (map expression_of xs))) reader.new result }
+    ensures { ReadsWhole reader.old (g.indices ∷ []) (λ xs. indices_then (expressions_of (map expression_of xs))) reader.new result }
 {
     if !reader.is(Terminal::OpenSquare) {
         return Ok(Items::new(alloc));
@@ -221,7 +221,7 @@ fn read_indices(alloc: Global, reader: &mut Reader<'_>) -> Result<Items<Expr>, F
 /// Reads the further expressions of a list.
 #[cycle(expression)]
 fn read_more_exprs(alloc: Global, reader: &mut Reader<'_>) -> Result<Items<Expr>, Failure>
-    ensures { Reads reader.old (g.more_exprs ∷ []) (λ xs. more_exprs_then (map expression_of xs)) reader.new result }
+    ensures { ReadsWhole reader.old (g.more_exprs ∷ []) (λ xs. more_exprs_then (map expression_of xs)) reader.new result }
 {
     let mut exprs = Items::new(alloc);
     'exprs: while reader.accept(Terminal::Comma) {
@@ -235,7 +235,7 @@ fn read_more_exprs(alloc: Global, reader: &mut Reader<'_>) -> Result<Items<Expr>
 #[cycle(expression)]
 fn read_group(alloc: Global, reader: &mut Reader<'_>) -> Result<Factor, Failure>
     requires { Chooses reader.old g.factor (g.token_open_round ∷ g.expr ∷ g.token_close_round ∷ []) }
-    ensures { Reads reader.old (g.factor ∷ []) (λ x. operand_then (factor_of x)) reader.new result }
+    ensures { ReadsWhole reader.old (g.factor ∷ []) (λ x. operand_then (factor_of x)) reader.new result }
 {
     let place = reader.place();
     let inner = read_bracketed(alloc, reader)?;
@@ -246,7 +246,7 @@ fn read_group(alloc: Global, reader: &mut Reader<'_>) -> Result<Factor, Failure>
 /// Reads an expression with the bracket before it.
 #[cycle(expression)]
 fn read_bracketed(alloc: Global, reader: &mut Reader<'_>) -> Result<Boxed<Expr>, Failure>
-    ensures { Reads reader.old (g.token_open_round ∷ g.expr ∷ []) (λ x. expression_then (expression_of x)) reader.new result }
+    ensures { ReadsWhole reader.old (g.token_open_round ∷ g.expr ∷ []) (λ x. expression_then (expression_of x)) reader.new result }
 {
     reader.open(Terminal::OpenRound)?;
     let inner = read_expr(alloc, reader)?;
@@ -258,7 +258,7 @@ fn read_bracketed(alloc: Global, reader: &mut Reader<'_>) -> Result<Boxed<Expr>,
 #[cycle(expression)]
 fn read_sum(alloc: Global, reader: &mut Reader<'_>) -> Result<Factor, Failure>
     requires { Chooses reader.old g.factor (g.token_sum ∷ g.token_open_round ∷ g.expr ∷ g.token_for ∷ g.binders ∷ g.token_close_round ∷ []) }
-    ensures { Reads reader.old (g.factor ∷ []) (λ x. operand_then (factor_of x)) reader.new result }
+    ensures { ReadsWhole reader.old (g.factor ∷ []) (λ x. operand_then (factor_of x)) reader.new result }
 {
     let place = reader.place();
     reader.expect(Terminal::Sum)?;
@@ -271,7 +271,7 @@ fn read_sum(alloc: Global, reader: &mut Reader<'_>) -> Result<Factor, Failure>
 /// Reads the binders of a sum or a quantifier, with the word before them and the bracket behind them.
 #[cycle(expression)]
 pub fn read_scope(alloc: Global, reader: &mut Reader<'_>) -> Result<Binders, Failure>
-    ensures { Reads reader.old (g.token_for ∷ g.binders ∷ g.token_close_round ∷ []) (λ b. binding_then (binding_of b)) reader.new result }
+    ensures { ReadsWhole reader.old (g.token_for ∷ g.binders ∷ g.token_close_round ∷ []) (λ b. binding_then (binding_of b)) reader.new result }
 {
     reader.expect(Terminal::For)?;
     let binders = read_binders(alloc, reader)?;
@@ -282,7 +282,7 @@ pub fn read_scope(alloc: Global, reader: &mut Reader<'_>) -> Result<Binders, Fai
 /// Reads binders.
 #[cycle(expression)]
 fn read_binders(alloc: Global, reader: &mut Reader<'_>) -> Result<Binders, Failure>
-    ensures { Reads reader.old (g.binders ∷ []) (λ b. binding_then (binding_of b)) reader.new result }
+    ensures { ReadsWhole reader.old (g.binders ∷ []) (λ b. binding_then (binding_of b)) reader.new result }
 {
     let place = reader.place();
     let parts = Pair::<Bind, Items<Bind>>::read(alloc, reader)?;
@@ -294,7 +294,7 @@ fn read_binders(alloc: Global, reader: &mut Reader<'_>) -> Result<Binders, Failu
 /// Reads the tests that binders may have.
 #[cycle(expression)]
 fn read_tests(alloc: Global, reader: &mut Reader<'_>) -> Result<Items<Test>, Failure>
-    ensures { Reads reader.old (g.tests ∷ []) (λ ts. tests_then (comparisons_of (map test_of ts))) reader.new result }
+    ensures { ReadsWhole reader.old (g.tests ∷ []) (λ ts. tests_then (comparisons_of (map test_of ts))) reader.new result }
 {
     if !reader.accept(Terminal::If) {
         return Ok(Items::new(alloc));
@@ -308,7 +308,7 @@ fn read_tests(alloc: Global, reader: &mut Reader<'_>) -> Result<Items<Test>, Fai
 /// Reads the further tests.
 #[cycle(expression)]
 fn read_more_tests(alloc: Global, reader: &mut Reader<'_>) -> Result<Items<Test>, Failure>
-    ensures { Reads reader.old (g.more_tests ∷ []) (λ ts. comparisons_then (comparisons_of (map test_of ts))) reader.new result }
+    ensures { ReadsWhole reader.old (g.more_tests ∷ []) (λ ts. comparisons_then (comparisons_of (map test_of ts))) reader.new result }
 {
     let mut tests = Items::new(alloc);
     'tests: while reader.accept(Terminal::And) {
@@ -321,7 +321,7 @@ fn read_more_tests(alloc: Global, reader: &mut Reader<'_>) -> Result<Items<Test>
 /// Reads a test.
 #[cycle(expression)]
 fn read_test(alloc: Global, reader: &mut Reader<'_>) -> Result<Test, Failure>
-    ensures { Reads reader.old (g.test ∷ []) (λ t. comparison_then (test_of t)) reader.new result }
+    ensures { ReadsWhole reader.old (g.test ∷ []) (λ t. comparison_then (test_of t)) reader.new result }
 {
     let place = reader.place();
     let left = read_expr(alloc, reader)?;

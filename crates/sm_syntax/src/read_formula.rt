@@ -1,10 +1,10 @@
 //! Reading literals and formulas.
 ghost use Rattle.std.specs.Prelude.{◌≡◌, ◌∷◌, [], false, IfOk};
 ghost use Rattle.sm_syntax.specs.Grammar as g;
-ghost use Rattle.sm_syntax.specs.Reading.{State, Leads, Reads, ReadsTo, Chooses, each, is_next};
+ghost use Rattle.sm_syntax.specs.Reading.{Standing, Leads, ReadsWhole, ReadsTo, Chooses, each, is_next};
 ghost use Rattle.sm_syntax.specs.Expressions.{literal_of};
 ghost use Rattle.sm_syntax.specs.Formulas.{formula_of, conclusion_of, disj_of, conj_of, unit_of, atom_of};
-ghost use Rattle.sm_syntax.specs.Steps.{lit_relation_then, quantifier_then, literal_then, negation_then, statement_then, ending_then, disjunction_then, conjunction_then, claim_then};
+ghost use Rattle.sm_syntax.specs.TreeSteps.{lit_relation_then, quantifier_then, literal_then, negation_then, statement_then, ending_then, disjunction_then, conjunction_then, claim_then};
 ghost use Rattle.sm_syntax.specs.Symbols.{lit_relation_of, quantifier_of};
 
 use crate::expression::{Binders, Expr};
@@ -35,7 +35,7 @@ fn lit_relation_of(terminal: Terminal) -> Option<LitRelation>
 
 /// Reads the relation of a literal.
 fn read_lit_relation(reader: &mut Reader<'_>) -> Result<LitRelation, Failure>
-    ensures { Reads reader.old (g.lit_relation ∷ []) lit_relation_then reader.new result }
+    ensures { ReadsWhole reader.old (g.lit_relation ∷ []) lit_relation_then reader.new result }
 {
     let terminal = reader.terminal();
     let Some(relation) = lit_relation_of(terminal) else {
@@ -58,7 +58,7 @@ fn quantifier_of(terminal: Terminal) -> Option<Quantifier>
 
 /// Reads a quantifier.
 fn read_quantifier(reader: &mut Reader<'_>) -> Result<Quantifier, Failure>
-    ensures { Reads reader.old (g.quantifier ∷ []) quantifier_then reader.new result }
+    ensures { ReadsWhole reader.old (g.quantifier ∷ []) quantifier_then reader.new result }
 {
     let terminal = reader.terminal();
     let Some(quantifier) = quantifier_of(terminal) else {
@@ -116,7 +116,7 @@ fn read_negations(alloc: Global, reader: &mut Reader<'_>) -> Result<Items<Place>
 /// Reads a formula.
 #[cycle(formula)]
 fn read_formula(alloc: Global, reader: &mut Reader<'_>) -> Result<Formula, Failure>
-    ensures { Reads reader.old (g.formula ∷ []) (λ f. statement_then (formula_of f)) reader.new result }
+    ensures { ReadsWhole reader.old (g.formula ∷ []) (λ f. statement_then (formula_of f)) reader.new result }
 {
     let place = reader.place();
     let left = read_disj(alloc, reader)?;
@@ -127,7 +127,7 @@ fn read_formula(alloc: Global, reader: &mut Reader<'_>) -> Result<Formula, Failu
 /// Reads what may stand behind the first disjunction of a formula.
 #[cycle(formula)]
 fn read_conclusion(alloc: Global, reader: &mut Reader<'_>) -> Result<Conclusion, Failure>
-    ensures { Reads reader.old (g.conclusion ∷ []) (λ e. ending_then (conclusion_of e)) reader.new result }
+    ensures { ReadsWhole reader.old (g.conclusion ∷ []) (λ e. ending_then (conclusion_of e)) reader.new result }
 {
     if reader.accept(Terminal::Implies) {
         let disj = read_disj(alloc, reader)?;
@@ -143,7 +143,7 @@ fn read_conclusion(alloc: Global, reader: &mut Reader<'_>) -> Result<Conclusion,
 /// Reads a disjunction.
 #[cycle(formula)]
 fn read_disj(alloc: Global, reader: &mut Reader<'_>) -> Result<Disj, Failure>
-    ensures { Reads reader.old (g.disj ∷ []) (λ d. disjunction_then (disj_of d)) reader.new result }
+    ensures { ReadsWhole reader.old (g.disj ∷ []) (λ d. disjunction_then (disj_of d)) reader.new result }
 {
     let place = reader.place();
     let first = read_conj(alloc, reader)?;
@@ -158,7 +158,7 @@ fn read_disj(alloc: Global, reader: &mut Reader<'_>) -> Result<Disj, Failure>
 /// Reads a conjunction.
 #[cycle(formula)]
 fn read_conj(alloc: Global, reader: &mut Reader<'_>) -> Result<Conj, Failure>
-    ensures { Reads reader.old (g.conj ∷ []) (λ x. conjunction_then (conj_of x)) reader.new result }
+    ensures { ReadsWhole reader.old (g.conj ∷ []) (λ x. conjunction_then (conj_of x)) reader.new result }
 {
     let place = reader.place();
     let first = read_unit(alloc, reader)?;
@@ -173,7 +173,7 @@ fn read_conj(alloc: Global, reader: &mut Reader<'_>) -> Result<Conj, Failure>
 /// Reads a unit.
 #[cycle(formula)]
 fn read_unit(alloc: Global, reader: &mut Reader<'_>) -> Result<Unit, Failure>
-    ensures { Reads reader.old (g.unit ∷ []) (λ u. claim_then (unit_of u)) reader.new result }
+    ensures { ReadsWhole reader.old (g.unit ∷ []) (λ u. claim_then (unit_of u)) reader.new result }
 {
     let negations = read_negations(alloc, reader)?;
     let inner = read_atom(alloc, reader)?;
@@ -184,7 +184,7 @@ fn read_unit(alloc: Global, reader: &mut Reader<'_>) -> Result<Unit, Failure>
 #[cycle(formula)]
 fn read_atom(alloc: Global, reader: &mut Reader<'_>) -> Result<Atom, Failure>
     requires { is_next Terminal.Not reader.old ≡ false }
-    ensures { Reads reader.old (g.unit ∷ []) (λ a. claim_then (atom_of a)) reader.new result }
+    ensures { ReadsWhole reader.old (g.unit ∷ []) (λ a. claim_then (atom_of a)) reader.new result }
 {
     match reader.terminal() {
         Terminal::OpenRound => read_formula_group(alloc, reader),
@@ -197,7 +197,7 @@ fn read_atom(alloc: Global, reader: &mut Reader<'_>) -> Result<Atom, Failure>
 /// Reads a literal as a unit.
 fn read_lit_atom(alloc: Global, reader: &mut Reader<'_>) -> Result<Atom, Failure>
     requires { Chooses reader.old g.unit (g.lit ∷ []) }
-    ensures { Reads reader.old (g.unit ∷ []) (λ a. claim_then (atom_of a)) reader.new result }
+    ensures { ReadsWhole reader.old (g.unit ∷ []) (λ a. claim_then (atom_of a)) reader.new result }
 {
     let place = reader.place();
     let lit = Lit::read(alloc, reader)?;
@@ -208,7 +208,7 @@ fn read_lit_atom(alloc: Global, reader: &mut Reader<'_>) -> Result<Atom, Failure
 #[cycle(formula)]
 fn read_formula_group(alloc: Global, reader: &mut Reader<'_>) -> Result<Atom, Failure>
     requires { Chooses reader.old g.unit (g.token_open_round ∷ g.formula ∷ g.token_close_round ∷ []) }
-    ensures { Reads reader.old (g.unit ∷ []) (λ a. claim_then (atom_of a)) reader.new result }
+    ensures { ReadsWhole reader.old (g.unit ∷ []) (λ a. claim_then (atom_of a)) reader.new result }
 {
     let place = reader.place();
     reader.open(Terminal::OpenRound)?;
@@ -222,7 +222,7 @@ fn read_formula_group(alloc: Global, reader: &mut Reader<'_>) -> Result<Atom, Fa
 #[cycle(formula)]
 fn read_quantified(alloc: Global, reader: &mut Reader<'_>) -> Result<Atom, Failure>
     requires { Chooses reader.old g.unit (g.quantifier ∷ g.token_open_round ∷ g.formula ∷ g.token_for ∷ g.binders ∷ g.token_close_round ∷ []) }
-    ensures { Reads reader.old (g.unit ∷ []) (λ a. claim_then (atom_of a)) reader.new result }
+    ensures { ReadsWhole reader.old (g.unit ∷ []) (λ a. claim_then (atom_of a)) reader.new result }
 {
     let place = reader.place();
     let quantifier = read_quantifier(reader)?;
@@ -234,7 +234,7 @@ fn read_quantified(alloc: Global, reader: &mut Reader<'_>) -> Result<Atom, Failu
 /// Reads the formula behind a quantifier, with the bracket before it.
 #[cycle(formula)]
 fn read_inner(alloc: Global, reader: &mut Reader<'_>) -> Result<Boxed<Formula>, Failure>
-    ensures { Reads reader.old (g.token_open_round ∷ g.formula ∷ []) (λ f. statement_then (formula_of f)) reader.new result }
+    ensures { ReadsWhole reader.old (g.token_open_round ∷ g.formula ∷ []) (λ f. statement_then (formula_of f)) reader.new result }
 {
     reader.open(Terminal::OpenRound)?;
     let inner = read_formula(alloc, reader)?;

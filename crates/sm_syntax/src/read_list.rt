@@ -1,10 +1,10 @@
 //! Reading lists, and the parts of constraints that stand in lists.
 ghost use Rattle.std.specs.Prelude.{◌≡◌, ◌∷◌, [], map, option_map};
 ghost use Rattle.sm_syntax.specs.Grammar as g;
-ghost use Rattle.sm_syntax.specs.Reading.{State, Leads, Reads};
+ghost use Rattle.sm_syntax.specs.Reading.{Standing, Leads, ReadsWhole};
 ghost use Rattle.sm_syntax.specs.Expressions.{binding_of, literal_of};
 ghost use Rattle.sm_syntax.specs.Trees.{listing_of, choice_of, ctask_of, dtask_of, load_of};
-ghost use Rattle.sm_syntax.specs.Steps.{for_each_then, presence_then, listing_then, choice_then, choices_then, ctask_then, ctasks_then, dtask_then, more_dtasks_then, load_then, loads_then};
+ghost use Rattle.sm_syntax.specs.TreeSteps.{for_each_then, presence_then, listing_then, choice_then, choices_then, ctask_then, ctasks_then, dtask_then, more_dtasks_then, load_then, loads_then};
 
 use crate::expression::{Binders, Expr};
 use crate::failure::Failure;

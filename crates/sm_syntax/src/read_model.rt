@@ -1,10 +1,10 @@
 //! Reading items, goals and models.
 ghost use Rattle.std.specs.Prelude.{◌≡◌, ◌<◌, ◌∷◌, [], OnOk, length, map, option_map};
 ghost use Rattle.sm_syntax.specs.Grammar as g;
-ghost use Rattle.sm_syntax.specs.Reading.{State, Leads, Reads, Chooses, ReadsAll};
+ghost use Rattle.sm_syntax.specs.Reading.{Standing, Leads, ReadsWhole, Chooses, ReadsAll};
 ghost use Rattle.sm_syntax.specs.Expressions.{binding_of};
 ghost use Rattle.sm_syntax.specs.Trees.{values_of, kind_of, aim_of, goal_of, item_of, tree_of};
-ghost use Rattle.sm_syntax.specs.Steps.{list_then, name_then, values_then, kind_then, family_then, forall_then, item_then, items_then, aim_then, goal_then, tree_then};
+ghost use Rattle.sm_syntax.specs.TreeSteps.{list_then, name_then, values_then, kind_then, family_then, forall_then, item_then, items_then, aim_then, goal_then, tree_then};
 ghost use Rattle.sm_syntax.specs.Symbols.{begins_item};
 
 use crate::expression::{Binders, Expr};
@@ -26,7 +26,7 @@ type IndexParts = Pair<
 /// Reads an index set.
 fn read_index(alloc: Global, reader: &mut Reader<'_>) -> Result<Item, Failure>
     requires { Chooses reader.old g.item (g.token_index ∷ g.token_name ∷ g.token_equal ∷ g.expr ∷ g.token_to ∷ g.expr ∷ g.token_semicolon ∷ []) }
-    ensures read { Reads reader.old (g.item ∷ []) (λ i. item_then (item_of i)) reader.new result }
+    ensures read { ReadsWhole reader.old (g.item ∷ []) (λ i. item_then (item_of i)) reader.new result }
     ensures shorter { OnOk result (length reader.new.later < length reader.old.later) }
 {
     let place = reader.place();
@@ -86,7 +86,7 @@ type Range = Pair<Expr, Pair<Mark<To>, Expr>>;
 /// Reads the values between two ends.
 fn read_range(alloc: Global, reader: &mut Reader<'_>) -> Result<Values, Failure>
     requires { Chooses reader.old g.values (g.expr ∷ g.token_to ∷ g.expr ∷ []) }
-    ensures { Reads reader.old (g.values ∷ []) (λ vs. values_then (values_of vs)) reader.new result }
+    ensures { ReadsWhole reader.old (g.values ∷ []) (λ vs. values_then (values_of vs)) reader.new result }
 {
     let parts = Range::read(alloc, reader)?;
     let Pair(least, Pair(_, greatest)) = parts;
@@ -99,7 +99,7 @@ type ValueList = Within<Brace, Pair<Expr, Items<Expr>>>;
 /// Reads the values of a list.
 fn read_value_list(alloc: Global, reader: &mut Reader<'_>) -> Result<Values, Failure>
     requires { Chooses reader.old g.values (g.token_open_brace ∷ g.expr ∷ g.more_exprs ∷ g.token_close_brace ∷ []) }
-    ensures { Reads reader.old (g.values ∷ []) (λ vs. values_then (values_of vs)) reader.new result }
+    ensures { ReadsWhole reader.old (g.values ∷ []) (λ vs. values_then (values_of vs)) reader.new result }
 {
     let parts = ValueList::read(alloc, reader)?;
     let Within(Pair(first, more), _) = parts;
@@ -122,7 +122,7 @@ impl Part for Values {
 /// Reads the kind of variables whose domain is a set.
 fn read_set_kind(alloc: Global, reader: &mut Reader<'_>) -> Result<Kind, Failure>
     requires { Chooses reader.old g.kind (g.token_set ∷ g.values ∷ []) }
-    ensures { Reads reader.old (g.kind ∷ []) (λ k. kind_then (kind_of k)) reader.new result }
+    ensures { ReadsWhole reader.old (g.kind ∷ []) (λ k. kind_then (kind_of k)) reader.new result }
 {
     let place = reader.place();
     let values = read_behind::<Values>(alloc, reader, Terminal::Set)?;
@@ -132,7 +132,7 @@ fn read_set_kind(alloc: Global, reader: &mut Reader<'_>) -> Result<Kind, Failure
 /// Reads the kind of whole variables with two ends.
 fn read_int_kind(alloc: Global, reader: &mut Reader<'_>) -> Result<Kind, Failure>
     requires { Chooses reader.old g.kind (g.token_int ∷ g.expr ∷ g.token_to ∷ g.expr ∷ []) }
-    ensures { Reads reader.old (g.kind ∷ []) (λ k. kind_then (kind_of k)) reader.new result }
+    ensures { ReadsWhole reader.old (g.kind ∷ []) (λ k. kind_then (kind_of k)) reader.new result }
 {
     let place = reader.place();
     let parts = read_behind::<Range>(alloc, reader, Terminal::Int)?;
@@ -147,7 +147,7 @@ fn read_int_kind(alloc: Global, reader: &mut Reader<'_>) -> Result<Kind, Failure
 /// Reads the kind of real variables.
 fn read_real_kind(alloc: Global, reader: &mut Reader<'_>) -> Result<Kind, Failure>
     requires { Chooses reader.old g.kind (g.token_real ∷ g.expr ∷ g.token_to ∷ g.expr ∷ []) }
-    ensures { Reads reader.old (g.kind ∷ []) (λ k. kind_then (kind_of k)) reader.new result }
+    ensures { ReadsWhole reader.old (g.kind ∷ []) (λ k. kind_then (kind_of k)) reader.new result }
 {
     let place = reader.place();
     let parts = read_behind::<Range>(alloc, reader, Terminal::Real)?;
@@ -179,7 +179,7 @@ type VarParts = Pair<Name, Pair<Family, Pair<Mark<Colon>, Pair<Kind, Mark<Semico
 /// Reads variables.
 fn read_var(alloc: Global, reader: &mut Reader<'_>) -> Result<Item, Failure>
     requires { Chooses reader.old g.item (g.token_var ∷ g.token_name ∷ g.family ∷ g.token_colon ∷ g.kind ∷ g.token_semicolon ∷ []) }
-    ensures read { Reads reader.old (g.item ∷ []) (λ i. item_then (item_of i)) reader.new result }
+    ensures read { ReadsWhole reader.old (g.item ∷ []) (λ i. item_then (item_of i)) reader.new result }
     ensures shorter { OnOk result (length reader.new.later < length reader.old.later) }
 {
     let place = reader.place();
@@ -218,7 +218,7 @@ type PostParts = Pair<Forall, Pair<Cons, Pair<Items<Tag>, Mark<Semicolon>>>>;
 /// Reads a constraint with its binders and tags.
 fn read_post(alloc: Global, reader: &mut Reader<'_>) -> Result<Item, Failure>
     requires { Chooses reader.old g.item (g.token_post ∷ g.forall ∷ g.cons ∷ g.tags ∷ g.token_semicolon ∷ []) }
-    ensures read { Reads reader.old (g.item ∷ []) (λ i. item_then (item_of i)) reader.new result }
+    ensures read { ReadsWhole reader.old (g.item ∷ []) (λ i. item_then (item_of i)) reader.new result }
     ensures shorter { OnOk result (length reader.new.later < length reader.old.later) }
 {
     let place = reader.place();
@@ -234,7 +234,7 @@ fn read_post(alloc: Global, reader: &mut Reader<'_>) -> Result<Item, Failure>
 
 /// Reads an item.
 fn read_item(alloc: Global, reader: &mut Reader<'_>) -> Result<Item, Failure>
-    ensures read { Reads reader.old (g.item ∷ []) (λ i. item_then (item_of i)) reader.new result }
+    ensures read { ReadsWhole reader.old (g.item ∷ []) (λ i. item_then (item_of i)) reader.new result }
     ensures shorter { OnOk result (length reader.new.later < length reader.old.later) }
 {
     match reader.terminal() {
@@ -272,7 +272,7 @@ impl Part for Items<Item> {
 /// Reads an aim to make an expression as great as it can be.
 fn read_maximise(alloc: Global, reader: &mut Reader<'_>) -> Result<Aim, Failure>
     requires { Chooses reader.old g.aim (g.token_maximise ∷ g.expr ∷ []) }
-    ensures { Reads reader.old (g.aim ∷ []) (λ a. aim_then (aim_of a)) reader.new result }
+    ensures { ReadsWhole reader.old (g.aim ∷ []) (λ a. aim_then (aim_of a)) reader.new result }
 {
     let place = reader.place();
     let expr = read_behind::<Expr>(alloc, reader, Terminal::Maximise)?;
@@ -282,7 +282,7 @@ fn read_maximise(alloc: Global, reader: &mut Reader<'_>) -> Result<Aim, Failure>
 /// Reads an aim to make an expression as small as it can be.
 fn read_minimise(alloc: Global, reader: &mut Reader<'_>) -> Result<Aim, Failure>
     requires { Chooses reader.old g.aim (g.token_minimise ∷ g.expr ∷ []) }
-    ensures { Reads reader.old (g.aim ∷ []) (λ a. aim_then (aim_of a)) reader.new result }
+    ensures { ReadsWhole reader.old (g.aim ∷ []) (λ a. aim_then (aim_of a)) reader.new result }
 {
     let place = reader.place();
     let expr = read_behind::<Expr>(alloc, reader, Terminal::Minimise)?;
@@ -291,7 +291,7 @@ fn read_minimise(alloc: Global, reader: &mut Reader<'_>) -> Result<Aim, Failure>
 
 /// Reads an aim.
 fn read_aim(alloc: Global, reader: &mut Reader<'_>) -> Result<Aim, Failure>
-    ensures { Reads reader.old (g.aim ∷ []) (λ a. aim_then (aim_of a)) reader.new result }
+    ensures { ReadsWhole reader.old (g.aim ∷ []) (λ a. aim_then (aim_of a)) reader.new result }
 {
     match reader.terminal() {
         Terminal::Maximise => read_maximise(alloc, reader),
@@ -302,7 +302,7 @@ fn read_aim(alloc: Global, reader: &mut Reader<'_>) -> Result<Aim, Failure>
 /// Reads that any solution will do.
 fn read_satisfy(reader: &mut Reader<'_>) -> Result<Goal, Failure>
     requires { Chooses reader.old g.goal (g.token_satisfy ∷ []) }
-    ensures { Reads reader.old (g.goal ∷ []) (λ x. goal_then (goal_of x)) reader.new result }
+    ensures { ReadsWhole reader.old (g.goal ∷ []) (λ x. goal_then (goal_of x)) reader.new result }
 {
     let place = reader.place();
     reader.expect(Terminal::Satisfy)?;
@@ -312,7 +312,7 @@ fn read_satisfy(reader: &mut Reader<'_>) -> Result<Goal, Failure>
 /// Reads an aim as a goal.
 fn read_aims(alloc: Global, reader: &mut Reader<'_>) -> Result<Goal, Failure>
     requires { Chooses reader.old g.goal (g.aim ∷ []) }
-    ensures { Reads reader.old (g.goal ∷ []) (λ x. goal_then (goal_of x)) reader.new result }
+    ensures { ReadsWhole reader.old (g.goal ∷ []) (λ x. goal_then (goal_of x)) reader.new result }
 {
     let place = reader.place();
     let first = read_aim(alloc, reader)?;

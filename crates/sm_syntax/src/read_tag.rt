@@ -1,9 +1,9 @@
 //! Reading tags.
 ghost use Rattle.std.specs.Prelude.{◌≡◌, ◌<◌, ◌∷◌, [], OnOk, length, map};
 ghost use Rattle.sm_syntax.specs.Grammar as g;
-ghost use Rattle.sm_syntax.specs.Reading.{State, Leads, Reads, Chooses};
+ghost use Rattle.sm_syntax.specs.Reading.{Standing, Leads, ReadsWhole, Chooses};
 ghost use Rattle.sm_syntax.specs.Trees.{tag_of};
-ghost use Rattle.sm_syntax.specs.Steps.{level_then, relaxing_then, picking_then, splitting_then, tag_then, tags_then};
+ghost use Rattle.sm_syntax.specs.TreeSteps.{level_then, relaxing_then, picking_then, splitting_then, tag_then, tags_then};
 ghost use Rattle.sm_syntax.specs.Symbols.{level_of, relaxing_of, picking_of, splitting_of, begins_tag};
 
 use crate::expression::Expr;
@@ -29,7 +29,7 @@ fn level_of(terminal: Terminal) -> Option<Level>
 
 /// Reads a level.
 fn read_level(reader: &mut Reader<'_>) -> Result<Level, Failure>
-    ensures { Reads reader.old (g.level ∷ []) level_then reader.new result }
+    ensures { ReadsWhole reader.old (g.level ∷ []) level_then reader.new result }
 {
     let terminal = reader.terminal();
     let Some(level) = level_of(terminal) else {
@@ -52,7 +52,7 @@ fn relaxing_of(terminal: Terminal) -> Option<Relaxing>
 
 /// Reads whether rows are relaxed.
 fn read_relaxing(reader: &mut Reader<'_>) -> Result<Relaxing, Failure>
-    ensures { Reads reader.old (g.relaxing ∷ []) relaxing_then reader.new result }
+    ensures { ReadsWhole reader.old (g.relaxing ∷ []) relaxing_then reader.new result }
 {
     let terminal = reader.terminal();
     let Some(relaxing) = relaxing_of(terminal) else {
@@ -76,7 +76,7 @@ fn picking_of(terminal: Terminal) -> Option<Picking>
 
 /// Reads a way of picking.
 fn read_picking(reader: &mut Reader<'_>) -> Result<Picking, Failure>
-    ensures { Reads reader.old (g.picking ∷ []) picking_then reader.new result }
+    ensures { ReadsWhole reader.old (g.picking ∷ []) picking_then reader.new result }
 {
     let terminal = reader.terminal();
     let Some(picking) = picking_of(terminal) else {
@@ -100,7 +100,7 @@ fn splitting_of(terminal: Terminal) -> Option<Splitting>
 
 /// Reads a way of splitting.
 fn read_splitting(reader: &mut Reader<'_>) -> Result<Splitting, Failure>
-    ensures { Reads reader.old (g.splitting ∷ []) splitting_then reader.new result }
+    ensures { ReadsWhole reader.old (g.splitting ∷ []) splitting_then reader.new result }
 {
     let terminal = reader.terminal();
     let Some(splitting) = splitting_of(terminal) else {
@@ -113,7 +113,7 @@ fn read_splitting(reader: &mut Reader<'_>) -> Result<Splitting, Failure>
 /// Reads how much is inferred.
 fn read_infer(reader: &mut Reader<'_>) -> Result<Tag, Failure>
     requires { Chooses reader.old g.tag (g.token_infer ∷ g.level ∷ []) }
-    ensures read { Reads reader.old (g.tag ∷ []) (λ t. tag_then (tag_of t)) reader.new result }
+    ensures read { ReadsWhole reader.old (g.tag ∷ []) (λ t. tag_then (tag_of t)) reader.new result }
     ensures shorter { OnOk result (length reader.new.later < length reader.old.later) }
 {
     let place = reader.place();
@@ -125,7 +125,7 @@ fn read_infer(reader: &mut Reader<'_>) -> Result<Tag, Failure>
 /// Reads whether a constraint is relaxed.
 fn read_relax(reader: &mut Reader<'_>) -> Result<Tag, Failure>
     requires { Chooses reader.old g.tag (g.token_relax ∷ g.relaxing ∷ []) }
-    ensures read { Reads reader.old (g.tag ∷ []) (λ t. tag_then (tag_of t)) reader.new result }
+    ensures read { ReadsWhole reader.old (g.tag ∷ []) (λ t. tag_then (tag_of t)) reader.new result }
     ensures shorter { OnOk result (length reader.new.later < length reader.old.later) }
 {
     let place = reader.place();
@@ -137,7 +137,7 @@ fn read_relax(reader: &mut Reader<'_>) -> Result<Tag, Failure>
 /// Reads a rank among constraints.
 fn read_branch(reader: &mut Reader<'_>) -> Result<Tag, Failure>
     requires { Chooses reader.old g.tag (g.token_branch ∷ g.token_number ∷ []) }
-    ensures read { Reads reader.old (g.tag ∷ []) (λ t. tag_then (tag_of t)) reader.new result }
+    ensures read { ReadsWhole reader.old (g.tag ∷ []) (λ t. tag_then (tag_of t)) reader.new result }
     ensures shorter { OnOk result (length reader.new.later < length reader.old.later) }
 {
     let place = reader.place();
@@ -149,7 +149,7 @@ fn read_branch(reader: &mut Reader<'_>) -> Result<Tag, Failure>
 /// Reads which variable is picked.
 fn read_pick(reader: &mut Reader<'_>) -> Result<Tag, Failure>
     requires { Chooses reader.old g.tag (g.token_pick ∷ g.picking ∷ []) }
-    ensures read { Reads reader.old (g.tag ∷ []) (λ t. tag_then (tag_of t)) reader.new result }
+    ensures read { ReadsWhole reader.old (g.tag ∷ []) (λ t. tag_then (tag_of t)) reader.new result }
     ensures shorter { OnOk result (length reader.new.later < length reader.old.later) }
 {
     let place = reader.place();
@@ -161,7 +161,7 @@ fn read_pick(reader: &mut Reader<'_>) -> Result<Tag, Failure>
 /// Reads how a domain is split.
 fn read_split(reader: &mut Reader<'_>) -> Result<Tag, Failure>
     requires { Chooses reader.old g.tag (g.token_split ∷ g.splitting ∷ []) }
-    ensures read { Reads reader.old (g.tag ∷ []) (λ t. tag_then (tag_of t)) reader.new result }
+    ensures read { ReadsWhole reader.old (g.tag ∷ []) (λ t. tag_then (tag_of t)) reader.new result }
     ensures shorter { OnOk result (length reader.new.later < length reader.old.later) }
 {
     let place = reader.place();
@@ -173,7 +173,7 @@ fn read_split(reader: &mut Reader<'_>) -> Result<Tag, Failure>
 /// Reads the number of a part of the model.
 fn read_sub(alloc: Global, reader: &mut Reader<'_>) -> Result<Tag, Failure>
     requires { Chooses reader.old g.tag (g.token_sub ∷ g.expr ∷ []) }
-    ensures read { Reads reader.old (g.tag ∷ []) (λ t. tag_then (tag_of t)) reader.new result }
+    ensures read { ReadsWhole reader.old (g.tag ∷ []) (λ t. tag_then (tag_of t)) reader.new result }
     ensures shorter { OnOk result (length reader.new.later < length reader.old.later) }
 {
     let place = reader.place();
@@ -184,7 +184,7 @@ fn read_sub(alloc: Global, reader: &mut Reader<'_>) -> Result<Tag, Failure>
 
 /// Reads a tag.
 fn read_tag(alloc: Global, reader: &mut Reader<'_>) -> Result<Tag, Failure>
-    ensures read { Reads reader.old (g.tag ∷ []) (λ t. tag_then (tag_of t)) reader.new result }
+    ensures read { ReadsWhole reader.old (g.tag ∷ []) (λ t. tag_then (tag_of t)) reader.new result }
     ensures shorter { OnOk result (length reader.new.later < length reader.old.later) }
 {
     match reader.terminal() {

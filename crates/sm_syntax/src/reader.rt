@@ -4,8 +4,8 @@ ghost use Rattle.sm_syntax.specs.Terminals.{code_of, opens, closes};
 ghost use Rattle.sm_syntax.specs.Tokens.{tokens};
 ghost use Rattle.sm_syntax.specs.Lexing.{is_end};
 ghost use Rattle.sm_syntax.specs.Grammars.{leaf};
-ghost use Rattle.sm_syntax.specs.Reading.{left, is_next, is_plain, unlisted, Leads, Reads};
-ghost use Rattle.sm_syntax.specs.Steps.{name_then, number_then};
+ghost use Rattle.sm_syntax.specs.Reading.{left, is_next, is_plain, unlisted, Leads, ReadsWhole};
+ghost use Rattle.sm_syntax.specs.TreeSteps.{name_then, number_then};
 ghost use Rattle.sm_syntax.specs.Grammar.{token_name, token_number};
 
 use crate::failure::Failure;
@@ -29,11 +29,11 @@ pub struct Reader<'a> {
 }
 
 impl<'a> Model for Reader<'a> {
-    ghost use Rattle.sm_syntax.specs.Reading.{State};
+    ghost use Rattle.sm_syntax.specs.Reading.{Standing};
     ghost use Rattle.sm_syntax.specs.Tokens.{tokens_from};
     ghost use Rattle.sm_syntax.specs.Lexing.{seen, behind};
 
-    ghost Value = { State };
+    ghost Value = { Standing };
 
     ghost view = { λ r. record { depth = r.depth; first = seen r.token; later = behind (seen r.token) (tokens_from r.rest.now r.next) } };
 }
@@ -147,7 +147,7 @@ impl<'a> Reader<'a> {
     /// Passes over this terminal.
     pub fn expect(&mut self, terminal: Terminal) -> Result<(), Failure>
         requires { is_plain terminal ≡ true }
-        ensures read { Reads self.old (leaf (code_of terminal) ∷ []) unlisted self.new result }
+        ensures read { ReadsWhole self.old (leaf (code_of terminal) ∷ []) unlisted self.new result }
         ensures shorter { OnOk result (length self.new.later < length self.old.later) }
     {
         if !self.is(terminal) {
@@ -160,7 +160,7 @@ impl<'a> Reader<'a> {
     /// Passes over this opening bracket, unless as many are open as may be.
     pub fn open(&mut self, bracket: Terminal) -> Result<(), Failure>
         requires { opens (code_of bracket) ≡ true }
-        ensures read { Reads self.old (leaf (code_of bracket) ∷ []) unlisted self.new result }
+        ensures read { ReadsWhole self.old (leaf (code_of bracket) ∷ []) unlisted self.new result }
         ensures shorter { OnOk result (length self.new.later < length self.old.later) }
     {
         if !self.is(bracket) {
@@ -177,7 +177,7 @@ impl<'a> Reader<'a> {
     /// Passes over this closing bracket.
     pub fn close(&mut self, bracket: Terminal) -> Result<(), Failure>
         requires { closes (code_of bracket) ≡ true }
-        ensures read { Reads self.old (leaf (code_of bracket) ∷ []) unlisted self.new result }
+        ensures read { ReadsWhole self.old (leaf (code_of bracket) ∷ []) unlisted self.new result }
         ensures shorter { OnOk result (length self.new.later < length self.old.later) }
     {
         if !self.is(bracket) {
@@ -190,7 +190,7 @@ impl<'a> Reader<'a> {
 
     /// Reads a name.
     pub fn name(&mut self, alloc: Global) -> Result<Name, Failure>
-        ensures read { Reads self.old (token_name ∷ []) name_then self.new result }
+        ensures read { ReadsWhole self.old (token_name ∷ []) name_then self.new result }
         ensures shorter { OnOk result (length self.new.later < length self.old.later) }
     {
         if !self.is(Terminal::Name) {
@@ -205,7 +205,7 @@ impl<'a> Reader<'a> {
 
     /// Reads a number.
     pub fn number(&mut self) -> Result<Number, Failure>
-        ensures read { Reads self.old (token_number ∷ []) number_then self.new result }
+        ensures read { ReadsWhole self.old (token_number ∷ []) number_then self.new result }
         ensures shorter { OnOk result (length self.new.later < length self.old.later) }
     {
         if !self.is(Terminal::Number) {

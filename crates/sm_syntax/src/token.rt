@@ -2,12 +2,14 @@
 ghost use Rattle.std.specs.Prelude.{◌≡◌, ◌≤◌, ◌<◌, ◌∷◌, true, false, IfSome, All, length, option_map};
 ghost use Rattle.std.specs.List.{prefix_len};
 ghost use Rattle.sm_syntax.specs.declared.terminal.Terminal.TheVariants as terminals;
-ghost use Rattle.sm_syntax.specs.Tokens.{is_digit, is_in_line, is_in_name, piece_of, length_behind, place_behind, word_terminal, digits_terminal, number_of, sign_terminal, terminal_of, value_of, tokens_from};
+ghost use Rattle.sm_words.specs.Letters.{is_digit, is_in_word};
+ghost use Rattle.sm_syntax.specs.Tokens.{is_in_line, piece_of, length_behind, place_behind, word_terminal, digits_terminal, number_of, sign_terminal, terminal_of, value_of, tokens_from};
 ghost use Rattle.sm_syntax.specs.Lexing.{seen, is_end, behind, with_token};
 
 use crate::place::Place;
 use crate::terminal::{Piece, Terminal};
 use crate::words::reserved_word;
+use sm_words::{LONGEST_NAME, is_digit, is_in_word};
 
 /// A token.
 #[derive(Clone, Copy, Debug)]
@@ -33,25 +35,18 @@ fn piece_of(first: u8) -> Piece
     }
 }
 
-/// Whether a word goes on with the byte.
-fn is_in_name(byte: u8) -> bool
-    ensures { result ≡ is_in_name byte }
-{
-    byte.is_ascii_alphanumeric() || byte == b'_'
-}
-
 /// How many of the first bytes go on with a word.
 fn word_length(bytes: &[u8]) -> usize
-    ensures { result ≡ prefix_len is_in_name bytes.now }
+    ensures { result ≡ prefix_len is_in_word bytes.now }
 {
-    bytes.iter().take_while(|b| is_in_name(**b)).count()
+    bytes.iter().take_while(|b| is_in_word(**b)).count()
 }
 
 /// How many of the first bytes are digits.
 fn digits_length(bytes: &[u8]) -> usize
     ensures { result ≡ prefix_len is_digit bytes.now }
 {
-    bytes.iter().take_while(|b| b.is_ascii_digit()).count()
+    bytes.iter().take_while(|b| is_digit(**b)).count()
 }
 
 /// How many of the first bytes stand before the end of the line.
@@ -93,7 +88,7 @@ fn word_terminal(word: &[u8]) -> Terminal
     match reserved_word(word) {
         Some(terminal) => terminal,
         None => {
-            if word.len() <= 64 {
+            if word.len() <= LONGEST_NAME {
                 Terminal::Name
             } else {
                 Terminal::Bad

@@ -1,5 +1,5 @@
 use Rattle.std.proofs.Common.{[]}
-use Rattle.sm_syntax.specs.Steps.{tree_then}
+use Rattle.sm_syntax.specs.TreeSteps.{tree_then}
 use Rattle.sm_syntax.proofs.OneToken.{grammar_ll1, start_open}
 use Rattle.sm_syntax.proofs.OneTree.{one_tree}
 use Rattle.sm_syntax.proofs.ParsingLaws.{same_steps}

@@ -1,6 +1,6 @@
 use Rattle.std.proofs.Common.{◌≡◌}
 use Rattle.sm_syntax.specs.Trees.{tree_of}
-use Rattle.sm_syntax.specs.Steps.{tree_then}
+use Rattle.sm_syntax.specs.TreeSteps.{tree_then}
 use Rattle.sm_syntax.specs.declared.ParseRefusal.TheVariants as refusal
 use Rattle.sm_syntax.proofs.WholeTexts.{read_tree, tree_model, read_shallow, refused_syntax, refused_nesting, refused_below}
 use Rattle.sm_syntax.proofs.parse.Goals as goal

@@ -3,7 +3,7 @@ use Rattle.std.specs.Prelude.{FitsSigned}
 use Rattle.std.proofs.lemmas.Int.{to_z-of_z}
 use Rattle.std.proofs.lemmas.Result.{err_from_is_err_and}
 use Rattle.toml.specs.View.{view}
-use Rattle.sm_data.specs.Documents.{number_in, row_in}
+use Rattle.sm_data.specs.Documents.{number_in}
 use Rattle.sm_data.proofs.Each.{goes, fails, ends}
 use Rattle.sm_data.proofs.documents.numbers.Goals as goal
 

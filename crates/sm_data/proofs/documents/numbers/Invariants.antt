@@ -1,7 +1,7 @@
 use Rattle.std.proofs.Common.{◌≡◌, drop}
 use Rattle.toml.specs.View.{view}
 use Rattle.sm_data.specs.Numbers.{each, with_front}
-use Rattle.sm_data.specs.Documents.{number_in, row_in}
+use Rattle.sm_data.specs.Documents.{number_in}
 use Rattle.sm_data.proofs.documents.numbers.Given as goal
 
 -- those so far and those to come are those of the array

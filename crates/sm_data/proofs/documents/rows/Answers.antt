@@ -1,7 +1,6 @@
-use Rattle.std.proofs.Common.{rules}
 use Rattle.std.proofs.lemmas.Result.{err_from_is_err_and}
 use Rattle.toml.specs.View.{view}
-use Rattle.sm_data.specs.Documents.{number_in, row_in}
+use Rattle.sm_data.specs.Documents.{row_in}
 use Rattle.sm_data.proofs.Each.{goes, fails, ends}
 use Rattle.sm_data.proofs.documents.rows.Goals as goal
 

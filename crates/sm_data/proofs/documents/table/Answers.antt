@@ -1,5 +1,5 @@
-use Rattle.std.proofs.Common.{rules, ◌≡◌, ◌∙◌, sym, subst, Some, None, map, ap, ap₂, ℤ, Option}
-use Rattle.toml.specs.Data.{Items, as_array, as_integer}
+use Rattle.std.proofs.Common.{rules, ◌≡◌, ◌∙◌, sym, subst, Some, None, map, ap, ap₂}
+use Rattle.toml.specs.Data.{as_array, as_integer}
 use Rattle.toml.specs.View.{view, items_view}
 use Rattle.sm_data.specs.Numbers.{Gives}
 use Rattle.sm_data.specs.Documents.{array_in, table_from}

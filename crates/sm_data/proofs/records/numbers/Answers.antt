@@ -1,4 +1,4 @@
-use Rattle.std.proofs.Common.{rules, w64, ◌≡◌, ◌∙◌, ap, sym, subst, ℕ, ℤ, Option, Some, None, List, ◌++◌, ◌∷◌, [], drop, get_or}
+use Rattle.std.proofs.Common.{rules, w64, ◌≡◌, ◌∙◌, ap, sym, subst, ℕ, Some, None, ◌++◌, ◌∷◌, [], drop, get_or}
 use Rattle.std.specs.Prelude.{FitsSigned}
 use Rattle.std.proofs.lemmas.Int.{to_z-of_z}
 use Rattle.std.proofs.lemmas.Result.{err_from_is_err_and}

@@ -5,7 +5,7 @@ use Rattle.csv.specs.Reading.{Reached, default_config, strip_bom}
 use Rattle.csv.specs.Records.{fields_of}
 use Rattle.csv.specs.declared.parser.State.TheVariants as st
 use Rattle.csv.proofs.ReadFacts.{rows-end, rows-more}
-use Rattle.sm_data.specs.Records.{HaveWidth, Row, refusal_by}
+use Rattle.sm_data.specs.Records.{HaveWidth, Fields, refusal_by}
 use Rattle.sm_data.specs.declared.refusal.DataCause.TheVariants as cause
 use Rattle.sm_data.specs.Numbers.{bad}
 use Rattle.sm_data.proofs.Widths.{refused, width_more}
@@ -43,7 +43,7 @@ loop-row-preserved c =
     let widths = s.0.5 refl inv.7 in
     let more = width_more (map fields_of c.loop-row.rows.items) c.loop-row.row-iterator.rdr.expected c.next.new.self.rdr.expected (fields_of c.in-Ok.row) inv.8 widths.0 widths.1 in
     let rows_are : map fields_of c.push.new.self.items ≡ map fields_of c.loop-row.rows.items ++ fields_of c.in-Ok.row ∷ [] = rw items (map-append fields_of c.loop-row.rows.items (c.in-Ok.row ∷ [])) in
-    (s.0.3 ∙ inv.0, inl s.1, s.2, s.0.2 ∙ inv.3, m.0, m.1, rw rows_are m.2, flexible ∙ inv.7, subst (λ (rs : List Row). HaveWidth rs c.next.new.self.rdr.expected) (sym rows_are) more)
+    (s.0.3 ∙ inv.0, inl s.1, s.2, s.0.2 ∙ inv.3, m.0, m.1, rw rows_are m.2, flexible ∙ inv.7, subst (λ (rs : List Fields). HaveWidth rs c.next.new.self.rdr.expected) (sym rows_are) more)
 
 pub returns-in-Err-clause-csv : goal.returns-in-Err-clause-csv
 returns-in-Err-clause-csv c = λ e.

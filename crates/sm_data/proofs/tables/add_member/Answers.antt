@@ -1,7 +1,7 @@
 use Rattle.std.proofs.Common.{rules, ◌≡◌, ◌∙◌, ap, sym, true, false, ℕ, List, map, string_bytes, Ok}
 use Rattle.std.proofs.lemmas.Result.{err_from_is_err_and}
 use Rattle.toml.specs.View.{view}
-use Rattle.sm_data.specs.Names.{is_name}
+use Rattle.sm_words.specs.Names.{is_name}
 use Rattle.sm_data.specs.Documents.{Entry, is_known}
 use Rattle.sm_data.specs.Files.{entry_view}
 use Rattle.sm_data.proofs.Entries.{looked_up, doubled_is, refused_in, added_is, view_push}

@@ -1,5 +1,5 @@
-use Rattle.std.proofs.Common.{rules, ◌≡◌, ◌∙◌, ap, sym, refl, true, false, ℕ, List, map}
-use Rattle.sm_data.specs.Names.{is_name}
+use Rattle.std.proofs.Common.{◌≡◌, ◌∙◌, ap, sym, refl, true, false, ℕ, List, map}
+use Rattle.sm_words.specs.Names.{is_name}
 use Rattle.sm_data.specs.Documents.{is_known}
 use Rattle.sm_data.specs.Files.{entry_view, NamedComesTo, RecordsComeTo}
 use Rattle.sm_data.proofs.Entries.{looked_up, answers_also, named_records}

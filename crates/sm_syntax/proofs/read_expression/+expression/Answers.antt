@@ -11,7 +11,7 @@ use Rattle.sm_syntax.specs.Grammars.{predict as chosen_side}
 use Rattle.sm_syntax.specs.Parsing.{becomes, stands_at}
 use Rattle.sm_syntax.specs.Expressions as plain
 use Rattle.sm_syntax.specs.Expressions.{expression_of, binding_of, factor_of, term_of, addend_of, test_of, addends_of, operands_of, expressions_of, comparisons_of}
-use Rattle.sm_syntax.specs.Steps.{expression_then, addends_then, comparisons_then, product_then, operand_then, operands_then, indices_then, binding_then, tests_then, comparison_then, minus_then}
+use Rattle.sm_syntax.specs.TreeSteps.{expression_then, addends_then, comparisons_then, product_then, operand_then, operands_then, indices_then, binding_then, tests_then, comparison_then, minus_then}
 use Rattle.sm_syntax.proofs.Readings.{map_more}
 use Rattle.sm_syntax.proofs.Lists.{addend_step, factor_step, expression_step, test_step, addends_each, operands_each, expressions_each, tests_each}
 use Rattle.sm_syntax.proofs.read_expression.+expression.Goals as goal

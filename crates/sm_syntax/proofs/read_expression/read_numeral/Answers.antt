@@ -2,7 +2,7 @@ use Rattle.std.proofs.Common.{ap, sym, refl, ◌∷◌, []}
 use Rattle.std.proofs.lemmas.Result.{err_from_is_err_and}
 use Rattle.sm_syntax.specs.Grammar as g
 use Rattle.sm_syntax.proofs.Readings.{after, restep, fault_at, opened_rule}
-use Rattle.sm_syntax.specs.Steps.{operand_then}
+use Rattle.sm_syntax.specs.TreeSteps.{operand_then}
 use Rattle.sm_syntax.specs.Expressions.{factor_of}
 use Rattle.sm_syntax.proofs.read_expression.read_numeral.Goals as goal
 

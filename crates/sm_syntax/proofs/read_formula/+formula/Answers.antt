@@ -1,7 +1,7 @@
 use Rattle.std.proofs.Common.{◌≡◌, ◌∙◌, ap, sym, refl, ◌∷◌, [], arith, map}
 use Rattle.std.proofs.lemmas.Result.{err_from_is_err_and}
 use Rattle.sm_syntax.specs.Grammar as g
-use Rattle.sm_syntax.specs.Reading.{State, next}
+use Rattle.sm_syntax.specs.Reading.{Standing, next}
 use Rattle.sm_syntax.proofs.Readings.{stay, after, behind, restep, fault_at, opened_group, opened_rule, begin, one_more, kept}
 use Rattle.sm_syntax.proofs.Predictions as predict
 use Rattle.std.proofs.Common.{subst, true, false}
@@ -11,7 +11,7 @@ use Rattle.sm_syntax.specs.Parsing.{becomes, stands_at}
 use Rattle.sm_syntax.specs.Reading.{is_next}
 use Rattle.sm_syntax.specs.Formulas as plain
 use Rattle.sm_syntax.specs.Formulas.{formula_of, conclusion_of, disj_of, conj_of, unit_of, atom_of}
-use Rattle.sm_syntax.specs.Steps.{statement_then, ending_then, disjunction_then, conjunction_then, claim_then}
+use Rattle.sm_syntax.specs.TreeSteps.{statement_then, ending_then, disjunction_then, conjunction_then, claim_then}
 use Rattle.sm_syntax.proofs.Readings.{map_more, from_kept}
 use Rattle.sm_syntax.proofs.Choices.{next_word}
 use Rattle.sm_syntax.proofs.Lists.{conj_step, unit_step, conjs_each, units_each, negated_each}
@@ -190,20 +190,20 @@ read_conclusion-returns-then-accept t c =
 
 pub read_conclusion-returns-in_err-disj-2 : goal.read_conclusion-returns-in_err-disj-2
 read_conclusion-returns-in_err-disj-2 t c =
-    let l0 = after (opened_group c.accept.new.self 48 (g.connective ∷ g.disj ∷ []) refl (predict.conclusion_iff c.accept.new.self (subst (λ (s : State). is_next terminal.Implies s ≡ false) (sym (c.accept.ensures.kept c.if-accept.false)) (sym c.accept.ensures.next ∙ c.if-accept.false)) (sym c.accept-2.ensures.next ∙ c.if-accept-2.true))) (behind (g.disj ∷ []) (after (opened_group c.accept.new.self 49 (g.token_iff ∷ []) refl (predict.connective_iff c.accept.new.self (subst (λ (s : State). is_next terminal.Implies s ≡ false) (sym (c.accept.ensures.kept c.if-accept.false)) (sym c.accept.ensures.next ∙ c.if-accept.false)) (sym c.accept-2.ensures.next ∙ c.if-accept-2.true))) (c.accept-2.ensures.lead c.if-accept-2.true))) in
+    let l0 = after (opened_group c.accept.new.self 48 (g.connective ∷ g.disj ∷ []) refl (predict.conclusion_iff c.accept.new.self (subst (λ (s : Standing). is_next terminal.Implies s ≡ false) (sym (c.accept.ensures.kept c.if-accept.false)) (sym c.accept.ensures.next ∙ c.if-accept.false)) (sym c.accept-2.ensures.next ∙ c.if-accept-2.true))) (behind (g.disj ∷ []) (after (opened_group c.accept.new.self 49 (g.token_iff ∷ []) refl (predict.connective_iff c.accept.new.self (subst (λ (s : Standing). is_next terminal.Implies s ≡ false) (sym (c.accept.ensures.kept c.if-accept.false)) (sym c.accept.ensures.next ∙ c.if-accept.false)) (sym c.accept-2.ensures.next ∙ c.if-accept-2.true))) (c.accept-2.ensures.lead c.if-accept-2.true))) in
     let l1 = from_kept (c.accept.ensures.kept c.if-accept.false) l0 in
     let p = err_from_is_err_and c.from_residual-in_err-disj-2.result c.from_residual-in_err-disj-2.ensures.1 in
     rw (p.1, p.2) (fault_at c.read_disj-then-accept-2.new.reader c.in_err-disj-2.field-0.0 (g.disj ∷ []) [] l1 c.in_err-disj-2.ensures)
 
 pub read_conclusion-returns-then-accept-2 : goal.read_conclusion-returns-then-accept-2
 read_conclusion-returns-then-accept-2 t c =
-    let l0 = after (opened_group c.accept.new.self 48 (g.connective ∷ g.disj ∷ []) refl (predict.conclusion_iff c.accept.new.self (subst (λ (s : State). is_next terminal.Implies s ≡ false) (sym (c.accept.ensures.kept c.if-accept.false)) (sym c.accept.ensures.next ∙ c.if-accept.false)) (sym c.accept-2.ensures.next ∙ c.if-accept-2.true))) (behind (g.disj ∷ []) (after (opened_group c.accept.new.self 49 (g.token_iff ∷ []) refl (predict.connective_iff c.accept.new.self (subst (λ (s : State). is_next terminal.Implies s ≡ false) (sym (c.accept.ensures.kept c.if-accept.false)) (sym c.accept.ensures.next ∙ c.if-accept.false)) (sym c.accept-2.ensures.next ∙ c.if-accept-2.true))) (c.accept-2.ensures.lead c.if-accept-2.true))) in
+    let l0 = after (opened_group c.accept.new.self 48 (g.connective ∷ g.disj ∷ []) refl (predict.conclusion_iff c.accept.new.self (subst (λ (s : Standing). is_next terminal.Implies s ≡ false) (sym (c.accept.ensures.kept c.if-accept.false)) (sym c.accept.ensures.next ∙ c.if-accept.false)) (sym c.accept-2.ensures.next ∙ c.if-accept-2.true))) (behind (g.disj ∷ []) (after (opened_group c.accept.new.self 49 (g.token_iff ∷ []) refl (predict.connective_iff c.accept.new.self (subst (λ (s : Standing). is_next terminal.Implies s ≡ false) (sym (c.accept.ensures.kept c.if-accept.false)) (sym c.accept.ensures.next ∙ c.if-accept.false)) (sym c.accept-2.ensures.next ∙ c.if-accept-2.true))) (c.accept-2.ensures.lead c.if-accept-2.true))) in
     let l1 = from_kept (c.accept.ensures.kept c.if-accept.false) l0 in
     restep (ending_then (conclusion_of c.equivalent.result)) (λ r. ap (λ x. ending_then x r) (sym c.equivalent.ensures)) (after l1 c.in_ok-disj-2.ensures)
 
 pub read_conclusion-returns : goal.read_conclusion-returns
 read_conclusion-returns t c =
-    let l0 = kept (c.accept-2.ensures.kept c.if-accept-2.false) (opened_group c.accept.new.self 48 [] refl (predict.conclusion_none c.accept.new.self (subst (λ (s : State). is_next terminal.Implies s ≡ false) (sym (c.accept.ensures.kept c.if-accept.false)) (sym c.accept.ensures.next ∙ c.if-accept.false)) (sym c.accept-2.ensures.next ∙ c.if-accept-2.false))) in
+    let l0 = kept (c.accept-2.ensures.kept c.if-accept-2.false) (opened_group c.accept.new.self 48 [] refl (predict.conclusion_none c.accept.new.self (subst (λ (s : Standing). is_next terminal.Implies s ≡ false) (sym (c.accept.ensures.kept c.if-accept.false)) (sym c.accept.ensures.next ∙ c.if-accept.false)) (sym c.accept-2.ensures.next ∙ c.if-accept-2.false))) in
     restep (ending_then (conclusion_of c.empty.result)) (λ r. ap (λ x. ending_then x r) (sym c.empty.ensures)) (from_kept (c.accept.ensures.kept c.if-accept.false) l0)
 
 pub read_unit-returns-in_err-negations : goal.read_unit-returns-in_err-negations

@@ -2,7 +2,7 @@ use Rattle.std.proofs.Common.{ap, sym, refl, ◌∷◌, []}
 use Rattle.std.proofs.lemmas.Result.{err_from_is_err_and}
 use Rattle.sm_syntax.specs.Grammar as g
 use Rattle.sm_syntax.proofs.Readings.{after, restep, fault_at, opened_rule}
-use Rattle.sm_syntax.specs.Steps.{claim_then}
+use Rattle.sm_syntax.specs.TreeSteps.{claim_then}
 use Rattle.sm_syntax.specs.Formulas.{atom_of}
 use Rattle.sm_syntax.proofs.read_formula.read_lit_atom.Goals as goal
 

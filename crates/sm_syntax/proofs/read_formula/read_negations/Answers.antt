@@ -2,7 +2,7 @@ use Rattle.std.proofs.Common.{◌∙◌, sym, refl, ◌∷◌, []}
 use Rattle.sm_syntax.specs.Grammar as g
 use Rattle.sm_syntax.proofs.Readings.{after, behind, opened_rule, begin, one_more}
 use Rattle.sm_syntax.proofs.Predictions as predict
-use Rattle.sm_syntax.specs.Steps.{negation_then}
+use Rattle.sm_syntax.specs.TreeSteps.{negation_then}
 use Rattle.sm_syntax.proofs.read_formula.read_negations.Goals as goal
 
 pub negations-init : goal.negations-init

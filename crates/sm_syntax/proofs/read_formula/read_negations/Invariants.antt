@@ -1,7 +1,7 @@
 use Rattle.std.proofs.Common.{◌∷◌, [], length}
 use Rattle.sm_syntax.specs.Grammar as g
 use Rattle.sm_syntax.specs.Reading.{Leads, each}
-use Rattle.sm_syntax.specs.Steps.{negation_then}
+use Rattle.sm_syntax.specs.TreeSteps.{negation_then}
 use Rattle.sm_syntax.proofs.read_formula.read_negations.Given as goal
 
 abbrev pub invariant-negations : goal.invariant-negations

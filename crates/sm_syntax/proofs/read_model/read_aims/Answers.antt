@@ -1,7 +1,7 @@
 use Rattle.std.proofs.Common.{ap, sym, refl, map}
 use Rattle.std.proofs.lemmas.Result.{err_from_is_err_and}
 use Rattle.sm_syntax.proofs.Readings.{restep, rule_reads, rule_fails}
-use Rattle.sm_syntax.specs.Steps.{goal_then}
+use Rattle.sm_syntax.specs.TreeSteps.{goal_then}
 use Rattle.sm_syntax.specs.Trees.{aims, aim_of}
 use Rattle.sm_syntax.proofs.read_model.read_aims.Goals as goal
 

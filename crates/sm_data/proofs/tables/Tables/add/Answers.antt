@@ -1,5 +1,6 @@
-use Rattle.std.proofs.Common.{rules, ◌≡◌, ◌∙◌, ap, sym, refl, subst, true, false, ℕ, List, map, codes, None, Some}
-use Rattle.sm_data.specs.Names.{is_name, file_name, stem_of}
+use Rattle.std.proofs.Common.{rules, ◌≡◌, subst, List, map, codes, None, Some}
+use Rattle.sm_words.specs.Names.{is_name}
+use Rattle.sm_data.specs.Paths.{file_name, stem_of}
 use Rattle.sm_data.specs.Documents.{is_known, Entry}
 use Rattle.sm_data.specs.Files.{entry_view, Answers, NamedComesTo, FileComesTo}
 use Rattle.sm_data.proofs.Entries.{answers_also, csv_file}

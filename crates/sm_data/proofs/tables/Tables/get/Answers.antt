@@ -1,4 +1,4 @@
-use Rattle.std.proofs.Common.{rules, ◌≡◌, ◌∙◌, ap, sym, map, List}
+use Rattle.std.proofs.Common.{rules, ◌≡◌, ◌∙◌, ap, map, List}
 use Rattle.sm_data.specs.Documents.{Entry}
 use Rattle.sm_data.specs.Files.{entry_view, table_of}
 use Rattle.sm_data.proofs.Entries.{found_at}

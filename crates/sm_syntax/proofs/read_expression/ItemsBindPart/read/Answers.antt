@@ -3,7 +3,7 @@ use Rattle.std.proofs.lemmas.Result.{err_from_is_err_and}
 use Rattle.sm_syntax.specs.Grammar as g
 use Rattle.sm_syntax.proofs.Readings.{after, behind, fault_at, opened_group, begin, one_more, kept}
 use Rattle.sm_syntax.proofs.Predictions as predict
-use Rattle.sm_syntax.specs.Steps.{item_step, bind_then}
+use Rattle.sm_syntax.specs.TreeSteps.{item_step, bind_then}
 use Rattle.sm_syntax.proofs.read_expression.ItemsBindPart.read.Goals as goal
 
 pub binds-init : goal.binds-init

@@ -1,4 +1,4 @@
-use Rattle.sm_syntax.specs.Steps.{item_step, bind_then}
+use Rattle.sm_syntax.specs.TreeSteps.{item_step, bind_then}
 use Rattle.std.proofs.Common.{◌∷◌, [], length}
 use Rattle.sm_syntax.specs.Grammar as g
 use Rattle.sm_syntax.specs.Reading.{Leads, each}

@@ -1,4 +1,4 @@
-use Rattle.sm_syntax.specs.Steps.{item_step, choice_then}
+use Rattle.sm_syntax.specs.TreeSteps.{item_step, choice_then}
 use Rattle.sm_syntax.specs.Trees.{choice_of}
 use Rattle.std.proofs.Common.{◌∷◌, [], map, length}
 use Rattle.sm_syntax.specs.Grammar as g

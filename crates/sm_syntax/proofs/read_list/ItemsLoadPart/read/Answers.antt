@@ -4,7 +4,7 @@ use Rattle.sm_syntax.specs.Grammar as g
 use Rattle.sm_syntax.proofs.Readings.{after, behind, fault_at, opened_group, begin, one_more, kept}
 use Rattle.sm_syntax.proofs.Predictions as predict
 use Rattle.sm_syntax.proofs.Readings.{map_more}
-use Rattle.sm_syntax.specs.Steps.{item_step, load_then}
+use Rattle.sm_syntax.specs.TreeSteps.{item_step, load_then}
 use Rattle.sm_syntax.specs.Trees.{load_of}
 use Rattle.sm_syntax.proofs.read_list.ItemsLoadPart.read.Goals as goal
 

@@ -1,4 +1,4 @@
-use Rattle.sm_syntax.specs.Steps.{item_step, load_then}
+use Rattle.sm_syntax.specs.TreeSteps.{item_step, load_then}
 use Rattle.sm_syntax.specs.Trees.{load_of}
 use Rattle.std.proofs.Common.{◌∷◌, [], map, length}
 use Rattle.sm_syntax.specs.Grammar as g

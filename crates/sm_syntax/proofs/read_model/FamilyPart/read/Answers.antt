@@ -2,7 +2,7 @@ use Rattle.std.proofs.Common.{◌≡◌, ◌∙◌, ap, sym, refl, ◌∷◌, []
 use Rattle.std.proofs.lemmas.Result.{err_from_is_err_and}
 use Rattle.sm_syntax.proofs.Readings.{restep, opened_group, group_reads, rule_fails}
 use Rattle.sm_syntax.proofs.Predictions as predict
-use Rattle.sm_syntax.specs.Steps.{family_then}
+use Rattle.sm_syntax.specs.TreeSteps.{family_then}
 use Rattle.sm_syntax.proofs.read_model.FamilyPart.read.Goals as goal
 
 pub returns-then-not-is : goal.returns-then-not-is

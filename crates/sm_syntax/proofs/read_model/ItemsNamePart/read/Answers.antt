@@ -3,7 +3,7 @@ use Rattle.std.proofs.lemmas.Result.{err_from_is_err_and}
 use Rattle.sm_syntax.specs.Grammar as g
 use Rattle.sm_syntax.proofs.Readings.{after, behind, fault_at, opened_group, begin, one_more, kept}
 use Rattle.sm_syntax.proofs.Predictions as predict
-use Rattle.sm_syntax.specs.Steps.{item_step, name_then}
+use Rattle.sm_syntax.specs.TreeSteps.{item_step, name_then}
 use Rattle.sm_syntax.proofs.read_model.ItemsNamePart.read.Goals as goal
 
 pub sets-init : goal.sets-init

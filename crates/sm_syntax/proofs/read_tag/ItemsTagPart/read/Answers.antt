@@ -4,7 +4,7 @@ use Rattle.sm_syntax.specs.Grammar as g
 use Rattle.sm_syntax.proofs.Readings.{after, behind, fault_at, opened_group, begin, one_more}
 use Rattle.sm_syntax.proofs.Predictions as predict
 use Rattle.sm_syntax.proofs.Readings.{map_more}
-use Rattle.sm_syntax.specs.Steps.{item_step, tag_then}
+use Rattle.sm_syntax.specs.TreeSteps.{item_step, tag_then}
 use Rattle.sm_syntax.specs.Trees.{tag_of}
 use Rattle.std.proofs.Common.{subst}
 use Rattle.sm_syntax.specs.declared.terminal.Terminal.{Terminal}

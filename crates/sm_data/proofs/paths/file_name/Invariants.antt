@@ -1,6 +1,6 @@
 use Rattle.std.proofs.Common.{◌≡◌, length}
-use Rattle.sm_data.specs.Names.{name_in, file_name}
-use Rattle.sm_data.proofs.names.file_name.Given as goal
+use Rattle.sm_data.specs.Paths.{name_in, file_name}
+use Rattle.sm_data.proofs.paths.file_name.Given as goal
 
 abbrev pub invariant-loop-first : goal.invariant-loop-first
 invariant-loop-first l = name_in l.rest l.name ≡ file_name l.fn.path

@@ -1,7 +1,7 @@
 use Rattle.std.proofs.Common.{rules, ◌≡◌, true}
-use Rattle.sm_data.specs.Names.{is_name}
-use Rattle.sm_data.proofs.Texts.{name_utf8}
-use Rattle.sm_data.proofs.names.name_text.Goals as goal
+use Rattle.sm_words.specs.Names.{is_name}
+use Rattle.sm_words.proofs.Texts.{name_utf8}
+use Rattle.sm_words.proofs.names.name_text.Goals as goal
 
 pub returns-in-Err : goal.returns-in-Err
 returns-in-Err c =

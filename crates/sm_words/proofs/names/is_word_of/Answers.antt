@@ -2,7 +2,7 @@ use Rattle.std.proofs.Common.{rules, tests, ◌==◌}
 use Rattle.std.specs.Str.{bytes_eq}
 use Rattle.std.proofs.lemmas.Iterator.Search.{any_from_yields_List}
 use Rattle.std.proofs.lemmas.Iterator.Splits.{YieldsList-from_slice_split}
-use Rattle.sm_data.proofs.names.is_word_of.Goals as goal
+use Rattle.sm_words.proofs.names.is_word_of.Goals as goal
 
 pub returns : goal.returns
 returns c = any_from_yields_List (bytes_eq c.args.word.now) _ _ c.any.result c.any.ensures.ran

@@ -1,7 +1,7 @@
 -- Trees that are spelled alike are one tree, also where more tokens follow.
 use Rattle.std.proofs.Common.{◌≡◌, refl, sym, ap, ℕ, List, [], ◌∷◌, Option, Some, None}
-use Rattle.sm_flat.specs.declared.linear.Cmp.{Cmp}
-use Rattle.sm_flat.specs.declared.linear.Cmp.TheVariants as cmp
+use Rattle.sm_kinds.specs.declared.linear.Cmp.{Cmp}
+use Rattle.sm_kinds.specs.declared.linear.Cmp.TheVariants as cmp
 use Rattle.early_model.specs.declared.symbol.Symbol.TheVariants as symbol
 use Rattle.early_model.specs.declared.tree.Sign.{Sign}
 use Rattle.early_model.specs.declared.tree.Sign.TheVariants.{Positive, Negative}

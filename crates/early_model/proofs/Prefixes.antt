@@ -4,8 +4,9 @@ use Rattle.std.specs.Prelude.{ℤ}
 use Rattle.std.proofs.lemmas.Int.{ints}
 use Rattle.std.proofs.Math.Seq.{get_or-append_seam}
 use Rattle.sm_flat.specs.Models.{FlatModel}
-use Rattle.sm_flat.specs.Limits.{IsFlat, IsDomain, IsSetDomain}
-use Rattle.sm_flat.specs.declared.var.Var.{Var}
+use Rattle.sm_flat.specs.Limits.{IsFlat}
+use Rattle.sm_kinds.specs.Vars.{IsDomain, IsSetDomain}
+use Rattle.sm_kinds.specs.declared.var.Var.{Var}
 use Rattle.sm_flat.specs.declared.form.Constraint.{Constraint}
 use Rattle.sm_flat.specs.declared.goal.Goal.{Goal}
 use Rattle.early_model.specs.declared.tree.Declaration.{Declaration}

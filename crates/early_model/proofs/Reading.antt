@@ -13,7 +13,7 @@ use Rattle.early_model.specs.declared.tree.Item.{Item}
 use Rattle.early_model.specs.declared.tree.Aim.TheVariants as aim
 use Rattle.early_model.specs.declared.failure.Failure.{Failure}
 use Rattle.early_model.specs.declared.failure.Failure.TheVariants.{NoModel}
-use Rattle.sm_flat.specs.declared.linear.Cmp.{Cmp}
+use Rattle.sm_kinds.specs.declared.linear.Cmp.{Cmp}
 use Rattle.early_model.specs.declared.tree.Item.TheVariants as item
 use Rattle.early_model.specs.declared.tree.Aim.{Aim}
 use Rattle.early_model.specs.Tokens.{Terminal, a_name, a_number, a_symbol}

@@ -7,8 +7,8 @@
 --     part  = [ NUMBER "*" ] NAME ;
 -- Each function puts the tokens of its tree before the rest of the text.
 use Rattle.std.specs.Prelude.{◌≡◌, ℕ, List, [], ◌∷◌, Option, Some, None}
-use Rattle.sm_flat.specs.declared.linear.Cmp.{Cmp}
-use Rattle.sm_flat.specs.declared.linear.Cmp.TheVariants as cmp
+use Rattle.sm_kinds.specs.declared.linear.Cmp.{Cmp}
+use Rattle.sm_kinds.specs.declared.linear.Cmp.TheVariants as cmp
 use Rattle.early_model.specs.declared.symbol.Symbol.{Symbol}
 use Rattle.early_model.specs.declared.symbol.Symbol.TheVariants as symbol
 use Rattle.early_model.specs.declared.tree.Sign.{Sign}

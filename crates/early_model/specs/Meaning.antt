@@ -5,8 +5,8 @@ use Rattle.std.specs.Ordering.{int_eq}
 use Rattle.std.specs.Str.{bytes_eq}
 use Rattle.sm_flat.specs.Limits.{IsFlat}
 use Rattle.sm_flat.specs.Models.{FlatModel}
-use Rattle.sm_flat.specs.declared.var.Var.{Var}
-use Rattle.sm_flat.specs.declared.var.VarKind.TheVariants.{Set}
+use Rattle.sm_kinds.specs.declared.var.Var.{Var}
+use Rattle.sm_kinds.specs.declared.var.VarKind.TheVariants.{Set}
 use Rattle.sm_flat.specs.declared.form.Constraint.{Constraint}
 use Rattle.sm_flat.specs.declared.form.Form.TheVariants.{Linear}
 use Rattle.sm_flat.specs.declared.goal.Goal.{Goal}

@@ -1,7 +1,8 @@
 //! The model of a beginning of a text.
 ghost use Rattle.std.specs.Prelude.{◌≡◌, Some, Err, IfOk, OnOk, length};
 ghost use Rattle.sm_flat.specs.Models.{FlatModel};
-ghost use Rattle.sm_flat.specs.Limits.{IsFlat, IsSetDomain};
+ghost use Rattle.sm_flat.specs.Limits.{IsFlat};
+ghost use Rattle.sm_kinds.specs.Vars.{IsSetDomain};
 ghost use Rattle.sm_flat.specs.declared.goal.Goal.{Goal as OneGoal};
 ghost use Rattle.early_model.specs.Meaning.{signed, parts_of, var_of, default_tags, with_item, goal_of, model_of, empty_draft, StaysWithin, IsItemWithin, IsAimWithin, IsHopeless};
 ghost use Rattle.early_model.specs.declared.tree.Item.TheVariants as items;

@@ -2,7 +2,7 @@
 ghost use Rattle.std.specs.Prelude.{◌≡◌, ◌∷◌, [], ℕ, List, Option, None, Err, IfSome, IfNone, IfOk};
 ghost use Rattle.early_model.specs.Tokens.{Terminal, a_name, a_number, a_symbol, tokens};
 ghost use Rattle.early_model.specs.Grammar.{minus_then, sign_then, factor_then, part_then, more_then, sum_then, comparison, bound_then, row_then, declaration_then, item_then, items_then, goal_then, spelling, EndsSum};
-ghost use Rattle.sm_flat.specs.declared.linear.Cmp.{Cmp as Comparison};
+ghost use Rattle.sm_kinds.specs.declared.linear.Cmp.{Cmp as Comparison};
 ghost use Rattle.early_model.specs.declared.symbol.Symbol.TheVariants as symbols;
 ghost use Rattle.early_model.specs.declared.tree.Sign.{Sign as Signum};
 ghost use Rattle.early_model.specs.declared.tree.Part.{Part as OnePart};

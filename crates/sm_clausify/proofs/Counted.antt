@@ -7,7 +7,8 @@ use Rattle.sm_clausify.specs.declared.formula.Formula.TheOpen.{Formula-F}
 use Rattle.sm_clausify.specs.declared.tally.Tally.{Tally}
 use Rattle.sm_clausify.specs.Propositions.{Proposition, meaning, meaning_step}
 use Rattle.sm_clausify.specs.Clauses.{clauses_of}
-use Rattle.sm_clausify.specs.Counting.{counts_of, literal_counts, flipped_counts, all_counts, any_counts, implied_counts, equivalent_counts, most, most_clauses}
+use Rattle.sm_clausify.specs.Counting.{counts_of, literal_counts, flipped_counts, all_counts, any_counts, implied_counts, equivalent_counts, most}
+use Rattle.sm_kinds.specs.Limits.{most_clauses}
 use Rattle.sm_clausify.specs.Tallies.{counts_in, parts_in, tally_step, tally_of}
 use Rattle.sm_clausify.proofs.Chains.{counts_in-tally_with}
 use Rattle.sm_clausify.proofs.Counting.{counts_of-conjunction, counts_of-disjunction, implication_counts, equivalence_counts, none_counted}

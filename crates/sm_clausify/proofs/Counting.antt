@@ -1,7 +1,7 @@
 -- Counts of clauses, part by part.
 use Rattle.std.proofs.Common.{◌≡◌, ◌∙◌, ap, ap₂, sym, refl, arith, ℕ, ◌+◌, ◌*◌, ◌≤◌, true, false, List, [], ◌∷◌, ◌++◌, length, map, length-append}
 use Rattle.std.specs.Prelude.{min, fold}
-use Rattle.sm_flat.specs.declared.clause.Clause.{Clause}
+use Rattle.sm_kinds.specs.declared.logic.Clause.{Clause}
 use Rattle.sm_clausify.specs.declared.counts.Counts.{Counts}
 use Rattle.sm_clausify.specs.Propositions.{Proposition, Propositions, part, conjunction, disjunction, implication, equivalence, parts_of}
 use Rattle.sm_clausify.specs.Clauses.{join, joined, in_turn, clauses_of}

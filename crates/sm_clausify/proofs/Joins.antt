@@ -3,8 +3,8 @@ use Rattle.std.proofs.Common.{◌≡◌, ◌∙◌, ap, ap₂, sym, refl, arith,
 use Rattle.std.specs.Prelude.{if◌then◌else◌}
 use Rattle.std.proofs.lemmas.List.Concat.{flat_map-append}
 use Rattle.std.proofs.lemmas.List.{length-map}
-use Rattle.sm_flat.specs.declared.literal.Literal.{Literal}
-use Rattle.sm_flat.specs.declared.clause.Clause.{Clause}
+use Rattle.sm_kinds.specs.declared.literal.Literal.{Literal}
+use Rattle.sm_kinds.specs.declared.logic.Clause.{Clause}
 use Rattle.sm_clausify.specs.Propositions.{Proposition, implication, equivalence}
 use Rattle.sm_clausify.specs.Clauses.{beside, empty_clause, join, clauses_of}
 

@@ -2,10 +2,12 @@
 use Rattle.std.proofs.Common.{◌≡◌, ◌∙◌, ap, ap₂, refl, Bool, true, false, not, ◌&&◌, ◌||◌, List, [], ◌∷◌, ◌++◌, map}
 use Rattle.std.specs.Prelude.{pos, ◌<ℤ◌, if◌then◌else◌}
 use Rattle.std.proofs.lemmas.List.Folds.{list_all-append, list_any-append}
-use Rattle.sm_flat.specs.declared.literal.Literal.{Literal}
-use Rattle.sm_flat.specs.declared.clause.Clause.{Clause}
-use Rattle.sm_flat.specs.Points.{Point}
-use Rattle.sm_flat.specs.Clauses.{is_true, has_true, satisfies_each, IsWhole}
+use Rattle.sm_kinds.specs.declared.literal.Literal.{Literal}
+use Rattle.sm_kinds.specs.declared.logic.Clause.{Clause}
+use Rattle.sm_kinds.specs.Points.{Point}
+use Rattle.sm_kinds.specs.Literals.{is_true}
+use Rattle.sm_kinds.specs.Logic.{has_true, satisfies_each}
+use Rattle.sm_kinds.specs.Points.{IsWhole}
 use Rattle.sm_clausify.specs.Propositions.{Proposition, literal, negation, conjunction, disjunction, Propositions, no_parts, part, EachLiteralOfAll}
 use Rattle.sm_clausify.specs.Clauses.{signed, beside, join, joined, in_turn, clauses_of}
 use Rattle.sm_clausify.specs.Truth.{holds, all_hold, any_holds, IsWholeOn}

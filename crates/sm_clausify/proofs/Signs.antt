@@ -4,12 +4,13 @@ use Rattle.std.specs.Prelude.{ℤ, pos, negsuc, ◌+ℤ◌, ◌*ℤ◌, ◌<ℤ�
 use Rattle.std.specs.Ordering.{int_eq}
 use Rattle.std.proofs.lemmas.Int.{ints}
 use Rattle.std.proofs.Math.IntN.{*ℤ-zero}
-use Rattle.sm_flat.specs.declared.literal.Literal.{Literal}
-use Rattle.sm_flat.specs.declared.literal.Test.{Test}
-use Rattle.sm_flat.specs.declared.literal.Test.TheVariants.{AtMost, AtLeast, Equal, Unequal}
-use Rattle.sm_flat.specs.Literals.{passes_test, opposite, beyond, complement}
-use Rattle.sm_flat.specs.Points.{Point}
-use Rattle.sm_flat.specs.Clauses.{is_true, IsWhole}
+use Rattle.sm_kinds.specs.declared.literal.Literal.{Literal}
+use Rattle.sm_kinds.specs.declared.literal.Test.{Test}
+use Rattle.sm_kinds.specs.declared.literal.Test.TheVariants.{AtMost, AtLeast, Equal, Unequal}
+use Rattle.sm_kinds.specs.Literals.{passes_test, opposite, beyond, complement}
+use Rattle.sm_kinds.specs.Points.{Point}
+use Rattle.sm_kinds.specs.Literals.{is_true}
+use Rattle.sm_kinds.specs.Points.{IsWhole}
 
 mul-step : (a : ℤ) (n : ℕ) → a *ℤ pos (suc n) ≡ a *ℤ pos n +ℤ a
 mul-step a n = omega (arith, ints)

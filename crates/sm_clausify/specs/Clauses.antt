@@ -2,9 +2,9 @@
 -- `or` are joined, each of the first part with each of the rest.
 use Rattle.std.specs.Prelude.{◌++◌, Bool, not, if◌then◌else◌, List, [], ◌∷◌, map}
 use Rattle.std.specs.List.{flat_map}
-use Rattle.sm_flat.specs.Literals.{complement}
-use Rattle.sm_flat.specs.declared.literal.Literal.{Literal}
-use Rattle.sm_flat.specs.declared.clause.Clause.{Clause}
+use Rattle.sm_kinds.specs.Literals.{complement}
+use Rattle.sm_kinds.specs.declared.literal.Literal.{Literal}
+use Rattle.sm_kinds.specs.declared.logic.Clause.{Clause}
 use Rattle.sm_clausify.specs.Propositions.{Proposition, literal, negation, conjunction, disjunction, Propositions, no_parts, part}
 
 -- the literal, or its complement

@@ -8,10 +8,6 @@ use Rattle.sm_clausify.specs.Clauses.{clauses_of}
 abbrev pub most : ℕ
 most = 18446744073709551615
 
--- the most clauses of one formula
-abbrev pub most_clauses : ℕ
-most_clauses = 4096
-
 -- how many clauses a formula has, and how many its negation
 abbrev pub counts_of : Proposition → Counts
 counts_of p = record { plain = min (length (clauses_of p false)) most; negated = min (length (clauses_of p true)) most }

@@ -1,6 +1,6 @@
 -- A formula as plain data: literals, negations, and `and` and `or` over any number of parts.
 use Rattle.std.specs.Prelude.{◌<◌, ◌^◌, List, [], ◌∷◌, map, unsigned_abs}
-use Rattle.sm_flat.specs.declared.literal.Literal.{Literal}
+use Rattle.sm_kinds.specs.declared.literal.Literal.{Literal}
 use Rattle.sm_clausify.specs.declared.formula.Formula.{Formula, fold-Formula}
 use Rattle.sm_clausify.specs.declared.formula.Formula.TheOpen.{Formula-F}
 

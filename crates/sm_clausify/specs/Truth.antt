@@ -1,8 +1,9 @@
 -- Whether a formula holds at a point.
 use Rattle.std.specs.Prelude.{◌&&◌, ◌||◌, Bool, true, false, not}
-use Rattle.sm_flat.specs.Points.{Point}
-use Rattle.sm_flat.specs.Clauses.{is_true, IsWhole}
-use Rattle.sm_flat.specs.declared.literal.Literal.{Literal}
+use Rattle.sm_kinds.specs.Points.{Point}
+use Rattle.sm_kinds.specs.Literals.{is_true}
+use Rattle.sm_kinds.specs.Points.{IsWhole}
+use Rattle.sm_kinds.specs.declared.literal.Literal.{Literal}
 use Rattle.sm_clausify.specs.Propositions.{Proposition, literal, negation, conjunction, disjunction, Propositions, no_parts, part, EachLiteral}
 
 abbrev mutual

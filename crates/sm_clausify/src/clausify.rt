@@ -1,21 +1,20 @@
 //! The public call, with its limit.
 ghost use Rattle.std.specs.Prelude.{◌≡◌, ◌<◌, ◌≤◌, ℕ, ◌<ℤ◌, pos, IfOk, Err, min, length, false};
-ghost use Rattle.sm_flat.specs.Points.{Point};
-ghost use Rattle.sm_flat.specs.Clauses.{satisfies_each};
+ghost use Rattle.sm_kinds.specs.Points.{Point};
+ghost use Rattle.sm_kinds.specs.Logic.{satisfies_each};
 ghost use Rattle.sm_clausify.specs.Propositions.{meaning, EachLiteral, HasSmallBound};
 ghost use Rattle.sm_clausify.specs.Clauses.{clauses_of};
-ghost use Rattle.sm_clausify.specs.Counting.{most, most_clauses};
+ghost use Rattle.sm_clausify.specs.Counting.{most};
+ghost use Rattle.sm_kinds.specs.Limits.{most_clauses};
 ghost use Rattle.sm_clausify.specs.Truth.{holds, IsWholeOn};
 
 use crate::build::clauses_at;
 use crate::formula::Formula;
 use crate::tally::tally_of;
 use sm_flat::Clause;
+use sm_kinds::MOST_CLAUSES;
 use std::alloc::Global;
 use thiserror::Error;
-
-/// The most clauses of one formula.
-pub const MOST_CLAUSES: u64 = 4096;
 
 /// Why a formula has no list of clauses.
 #[derive(Clone, Copy, Debug, PartialEq, Eq, Error)]

@@ -6,7 +6,7 @@
 #![tactic(auto)]
 
 ghost use Rattle.std.specs.Prelude.{◌≡◌, List, map};
-ghost use Rattle.sm_flat.specs.declared.literal.Literal.{Literal};
+ghost use Rattle.sm_kinds.specs.declared.literal.Literal.{Literal};
 ghost use Rattle.sm_clausify.specs.Propositions.{Proposition, literal, negation, conjunction, disjunction, implication, equivalence, parts_of};
 ghost use Rattle.sm_clausify.specs.Counting.{counts_of, literal_counts, flipped_counts, all_counts, any_counts, implied_counts, equivalent_counts};
 
@@ -19,7 +19,7 @@ mod nots;
 mod tally;
 
 pub use bounds::has_small_bounds;
-pub use clausify::{ClauseRefusal, MOST_CLAUSES, clauses};
+pub use clausify::{ClauseRefusal, clauses};
 pub use counts::Counts;
 pub use formula::Formula;
 

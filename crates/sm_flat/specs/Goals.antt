@@ -4,8 +4,8 @@ use Rattle.sm_flat.specs.declared.goal.Goal.{Goal}
 use Rattle.sm_flat.specs.declared.goal.Sense.{Sense}
 use Rattle.sm_flat.specs.declared.goal.Sense.TheVariants.{Minimise, Maximise, Satisfy}
 use Rattle.sm_flat.specs.Models.{FlatModel}
-use Rattle.sm_flat.specs.Points.{Point}
-use Rattle.sm_flat.specs.Sums.{sum_at}
+use Rattle.sm_kinds.specs.Points.{Point}
+use Rattle.sm_kinds.specs.Sums.{sum_at}
 
 abbrev pub no_goal : Goal
 no_goal = record { sense = Satisfy; terms = []; constant = pos 0 }

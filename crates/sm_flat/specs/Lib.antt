@@ -1,10 +1,7 @@
-pub mod Literals
 pub mod Models
 pub mod Assignments
-pub mod Points
-pub mod Sums
-pub mod Sat
-pub mod Clauses
+pub mod Forms
 pub mod Goals
 pub mod Solutions
 pub mod Limits
+pub mod Subproblems

@@ -1,9 +1,10 @@
 -- Solutions, optima, and models without a solution.
 use Rattle.std.specs.Prelude.{◌≡◌, ℕ, ◌<◌, List, length, ℤ, pos, Bool, true, ◌<ℤ◌, Some, slice_get}
 use Rattle.sm_flat.specs.declared.form.Constraint.{Constraint}
-use Rattle.sm_flat.specs.Models.{FlatModel, var_at, LiesIn}
-use Rattle.sm_flat.specs.Points.{Point}
-use Rattle.sm_flat.specs.Sat.{Sat}
+use Rattle.sm_kinds.specs.Vars.{var_at, LiesIn}
+use Rattle.sm_flat.specs.Models.{FlatModel}
+use Rattle.sm_kinds.specs.Points.{Point}
+use Rattle.sm_flat.specs.Forms.{Sat}
 use Rattle.sm_flat.specs.Goals.{IsBetter, HasValues}
 
 -- each value lies in the declared domain of its variable

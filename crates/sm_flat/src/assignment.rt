@@ -1,8 +1,8 @@
 //! Assignments of fractions with a common denominator.
 ghost use Rattle.std.specs.Prelude.{◌≡◌, ◌≤◌, ◌^◌, ◌↔◌, ◌≤ℤ◌, pos, IsTrue, IfOk, length, unsigned_abs};
-ghost use Rattle.sm_flat.specs.Points.{point_of};
-ghost use Rattle.sm_flat.specs.Assignments.{IsAssignment};
+ghost use Rattle.sm_flat.specs.Assignments.{IsAssignment, point_of};
 
+use sm_kinds::Values;
 use sqlite_items::Items;
 use std::alloc::{AllocError, Global};
 use std::marker::Model;
@@ -87,5 +87,25 @@ impl Assignment {
             Some(numerator) => *numerator,
             None => 0,
         }
+    }
+}
+
+impl Values for Assignment {
+    ghost use Rattle.sm_flat.specs.Assignments.{point_of};
+
+    ghost point = { point_of };
+
+    fn denominator(&self) -> i64
+        ensures value { result ≡ (point_of self.now).denominator }
+        ensures range { (pos 1 ≤ℤ result) × (result ≤ℤ pos (2 ^ 52)) }
+    {
+        self.denominator
+    }
+
+    fn numerator(&self, var: u32) -> i128
+        ensures value { result ≡ (point_of self.now).numerator var }
+        ensures bound { unsigned_abs result ≤ 2 ^ 83 }
+    {
+        Assignment::numerator(self, var)
     }
 }

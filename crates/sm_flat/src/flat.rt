@@ -1,11 +1,12 @@
 //! The flat model.
 ghost use Rattle.std.specs.Prelude.{◌≡◌, ◌<◌, ◌↔◌, Some, IsSome, IfSome, length, slice_get};
-ghost use Rattle.sm_flat.specs.Limits.{IsFlat, IsForm};
+ghost use Rattle.sm_flat.specs.Limits.{IsFlat};
+ghost use Rattle.sm_flat.specs.Forms.{IsForm};
 
 use crate::form::Constraint;
 use crate::goal::Goal;
 use crate::limits::{are_constraints, are_goals, are_vars};
-use crate::var::Var;
+use sm_kinds::Var;
 use std::marker::Model;
 
 /// A flat model: variables, constraints and one to four goals, most important first, within all limits.
@@ -36,10 +37,10 @@ impl Flat {
         if !are_vars(vars.as_slice()) {
             return None;
         }
-        if !are_constraints(vars.len(), constraints.as_slice()) {
+        if !are_constraints(vars.as_slice(), constraints.as_slice()) {
             return None;
         }
-        if !are_goals(vars.len(), goals.as_slice()) {
+        if !are_goals(vars.as_slice(), goals.as_slice()) {
             return None;
         }
         Some(Flat {
@@ -69,7 +70,7 @@ impl Flat {
     pub fn constraint(&self, k: u32) -> &Constraint
         requires { k < length self.now.constraints }
         ensures value { slice_get self.now.constraints k ≡ Some result.now }
-        ensures limits { IsForm (length self.now.vars) result.now.form }
+        ensures limits { IsForm self.now.vars result.now.form }
     {
         &self.constraints[k as usize]
     }

@@ -1,11 +1,12 @@
 //! Goals and their values.
-ghost use Rattle.std.specs.Prelude.{◌≡◌, ◌≤◌, ◌<◌, ◌+◌, ◌^◌, ◌*ℤ◌, All, length, unsigned_abs};
-ghost use Rattle.sm_flat.specs.Points.{point_of};
+ghost use Rattle.std.specs.Prelude.{◌≡◌, ◌≤◌, ◌<◌, ◌+◌, ◌^◌, All, length, unsigned_abs};
+ghost use Rattle.sm_kinds.specs.Limits.{IsSmall, most_goal_terms};
+ghost use Rattle.sm_flat.specs.Assignments.{point_of};
 ghost use Rattle.sm_flat.specs.Goals.{goal_at, worth};
 
 use crate::assignment::Assignment;
 use crate::flat::Flat;
-use crate::linear::sum_at;
+use sm_kinds::{scaled, sum_at};
 use sqlite_items::Items;
 
 /// What is wanted of a goal's value.
@@ -26,25 +27,15 @@ pub struct Goal {
     pub constant: i64,
 }
 
-/// The constant of a goal, times the denominator.
-fn scaled_constant(goal: &Goal, a: &Assignment) -> i128
-    requires { unsigned_abs goal.now.constant ≤ 2 ^ 31 }
-    ensures value { result ≡ goal.now.constant *ℤ a.now.denominator }
-    ensures bound { unsigned_abs result ≤ 2 ^ 83 }
-{
-    i128::from(goal.constant) * i128::from(a.denominator())
-}
-
 /// The value of a goal, times the denominator.
 fn worth(goal: &Goal, a: &Assignment) -> i128
-    requires few { length goal.now.terms ≤ 4096 }
-    requires small { All (λ t. unsigned_abs t.1 ≤ 2 ^ 31) goal.now.terms }
-    requires constant { unsigned_abs goal.now.constant ≤ 2 ^ 31 }
+    requires few { length goal.now.terms ≤ most_goal_terms }
+    requires small { All (λ t. IsSmall t.1) goal.now.terms }
+    requires constant { IsSmall goal.now.constant }
     ensures value { result ≡ worth goal.now (point_of a.now) }
     ensures bound { unsigned_abs result ≤ 2 ^ 126 + 2 ^ 83 }
 {
-    let constant = scaled_constant(goal, a);
-    sum_at(goal.terms.as_slice(), a) + constant
+    sum_at(goal.terms.as_slice(), a) + scaled(goal.constant, a)
 }
 
 /// The value of the goal of a level, from 0, at an assignment, in the goal's own sense: numerator and denominator.

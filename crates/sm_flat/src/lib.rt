@@ -3,24 +3,22 @@
 #![tactic(auto)]
 
 mod assignment;
-mod clause;
 mod flat;
 mod form;
 mod goal;
 mod limits;
-mod linear;
-mod literal;
 mod solve;
+mod subproblem;
 mod tags;
-mod var;
 
 pub use assignment::{Assignment, is_assignment};
-pub use clause::Clause;
 pub use flat::Flat;
 pub use form::{Constraint, Form, Kind, kind_of};
 pub use goal::{Goal, Sense, value};
-pub use linear::{Cmp, LinRow};
-pub use literal::{Literal, Test};
-pub use solve::{fits, holds, solves};
+pub use sm_kinds::{
+    Choice, Clause, Cmp, Entry, Item, LinRow, Literal, Packing, Task, Test, Values, Var, VarKind,
+    VarTest,
+};
+pub use solve::{every_var, fits, holds, solves};
+pub use subproblem::sub_of;
 pub use tags::{Level, PickBy, SplitBy, Tags};
-pub use var::{Var, VarKind};

@@ -1,85 +1,29 @@
 //! The tests behind `Flat::new`: each limit, and how the parts fit each other.
-ghost use Rattle.std.specs.Prelude.{◌≡◌, ◌≢◌, ◌≤◌, ◌<◌, ◌+◌, ◌^◌, ◌↔◌, ℕ, pos, IsTrue, All, length, unsigned_abs, sum_by, drop};
-ghost use Rattle.sm_flat.specs.Limits.{IsRising, width_of, IsSetDomain, IsDomain, set_width, VariablesRise, IsSum, IsRow, IsForm, size_of, IsGoal, StandsAlone, AreGoals, AreVars, AreConstraints};
-ghost use Rattle.sm_flat.specs.declared.var.Var.{Var as Variable};
+ghost use Rattle.std.specs.Prelude.{◌≡◌, ◌≤◌, ◌<◌, ◌↔◌, IsTrue, All, length, sum_by, if◌then◌else◌};
+ghost use Rattle.sm_kinds.specs.Limits.{most_variables, most_total};
+ghost use Rattle.sm_kinds.specs.Vars.{IsDomain, set_width, IsDiscrete};
+ghost use Rattle.sm_kinds.specs.declared.var.Var.{Var as Variable};
+ghost use Rattle.sm_flat.specs.Forms.{IsConstraint, size_of};
+ghost use Rattle.sm_flat.specs.Limits.{one_if_real, has_real, one_if_real_row, AreVars, AreConstraints, IsGoal, StandsAlone, RealsLast, AreGoals};
 ghost use Rattle.sm_flat.specs.declared.form.Constraint.{Constraint as Stated};
 
-use crate::form::{Constraint, Form};
+use crate::form::{Constraint, Form, is_constraint, spend};
 use crate::goal::{Goal, Sense};
-use crate::linear::LinRow;
-use crate::var::{Var, VarKind};
-
-/// Whether the number is within 2^31 in absolute value.
-fn is_small(number: i64) -> bool
-    ensures { IsTrue result ↔ (unsigned_abs number ≤ 2 ^ 31) }
-{
-    number.unsigned_abs() <= 1 << 31
-}
-
-fn all_small(values: &[i64]) -> bool
-    ensures { IsTrue result ↔ All (λ v. unsigned_abs v ≤ 2 ^ 31) values.now }
-{
-    values.iter().all(|v| is_small(*v))
-}
-
-/// Whether each number is below the next.
-fn is_rising(values: &[i64]) -> bool
-    ensures { IsTrue result ↔ IsRising values.now }
-{
-    for i in 1..values.len() {
-        if values[i - 1] >= values[i] {
-            return false;
-        }
-    }
-    true
-}
-
-/// How many whole numbers lie between the ends, both counted.
-fn width_of(values: &[i64]) -> u64
-    requires some { 0 < length values.now }
-    requires small { All (λ v. unsigned_abs v ≤ 2 ^ 31) values.now }
-    ensures value { result ≡ width_of values.now }
-    ensures bound { result ≤ 2 ^ 32 + 1 }
-{
-    let last = values[values.len() - 1];
-    let first = values[0];
-    (last - first).unsigned_abs() + 1
-}
-
-/// Whether the values are a domain of a variable of kind `Set`.
-fn is_set_domain(values: &[i64]) -> bool
-    ensures { IsTrue result ↔ IsSetDomain values.now }
-{
-    !values.is_empty() && all_small(values) && is_rising(values) && width_of(values) <= 4096
-}
-
-fn is_domain(var: &Var) -> bool
-    ensures { IsTrue result ↔ IsDomain var.now.kind var.now.values }
-{
-    match var.kind {
-        VarKind::Set => is_set_domain(var.values.as_slice()),
-    }
-}
+use sm_kinds::{
+    MOST_CONSTRAINTS, MOST_GOAL_TERMS, MOST_GOALS, MOST_REAL_ROWS, MOST_REALS, MOST_TOTAL,
+    MOST_VARIABLES, MOST_WIDTHS, Var, is_discrete, is_domain, is_real, is_real_kind, is_small,
+    is_sum, set_width,
+};
 
 fn are_domains(vars: &[Var]) -> bool
     ensures { IsTrue result ↔ All (λ (v : Variable). IsDomain v.kind v.values) vars.now }
 {
-    vars.iter().all(is_domain)
-}
-
-fn set_width(var: &Var) -> u64
-    requires { IsDomain var.now.kind var.now.values }
-    ensures value { result ≡ set_width var.now.kind var.now.values }
-    ensures bound { result ≤ 4096 }
-{
-    match var.kind {
-        VarKind::Set => width_of(var.values.as_slice()),
-    }
+    vars.iter().all(|v| is_domain(v))
 }
 
 /// The sum of the widths of all variables of kind `Set`.
 fn widths_of(vars: &[Var]) -> u64
-    requires few { length vars.now ≤ 4096 }
+    requires few { length vars.now ≤ most_variables }
     requires each { All (λ (v : Variable). IsDomain v.kind v.values) vars.now }
     ensures { result ≡ sum_by (λ (v : Variable). set_width v.kind v.values) vars.now }
 {
@@ -90,93 +34,97 @@ fn widths_of(vars: &[Var]) -> u64
     total
 }
 
+fn one_if_real(var: &Var) -> usize
+    ensures { result ≡ one_if_real var.now }
+{
+    if is_real_kind(var.kind) { 1 } else { 0 }
+}
+
+/// How many of the variables are real.
+fn reals_of(vars: &[Var]) -> usize
+    ensures { result ≡ sum_by one_if_real vars.now }
+{
+    let mut total: usize = 0;
+    for var in vars {
+        total += one_if_real(var);
+    }
+    total
+}
+
 /// Whether the variables are within the limits.
 pub(crate) fn are_vars(vars: &[Var]) -> bool
     ensures { IsTrue result ↔ AreVars vars.now }
 {
-    vars.len() <= 4096 && are_domains(vars) && widths_of(vars) <= 262_144
+    vars.len() <= MOST_VARIABLES
+        && are_domains(vars)
+        && widths_of(vars) <= MOST_WIDTHS
+        && reals_of(vars) <= MOST_REALS
 }
 
-/// Whether the variables of the terms rise.
-fn variables_rise(terms: &[(u32, i64)]) -> bool
-    ensures { IsTrue result ↔ VariablesRise terms.now }
+/// Whether the constraints have no more terms, literals and members of tables than the limit.
+fn is_total_within(constraints: &[Constraint]) -> bool
+    ensures { IsTrue result ↔ (sum_by (λ (c : Stated). size_of c.form) constraints.now ≤ most_total) }
 {
-    for i in 1..terms.len() {
-        if terms[i - 1].0 >= terms[i].0 {
-            return false;
+    let mut left = MOST_TOTAL;
+    for constraint in constraints {
+        match spend(&constraint.form, left) {
+            Some(rest) => left = rest,
+            None => return false,
         }
     }
     true
 }
 
-/// Whether the terms are a sum over the first `count` variables.
-fn is_sum(count: usize, terms: &[(u32, i64)]) -> bool
-    ensures { IsTrue result ↔ IsSum count terms.now }
+/// Whether some term is of a real variable.
+fn has_real(vars: &[Var], terms: &[(u32, i64)]) -> bool
+    ensures { result ≡ has_real vars.now terms.now }
 {
-    terms.iter().all(|t| (t.0 as usize) < count)
-        && variables_rise(terms)
-        && terms.iter().all(|t| t.1 != 0)
-        && terms.iter().all(|t| is_small(t.1))
+    terms.iter().any(|t| is_real(vars, t.0))
 }
 
-fn is_row(count: usize, row: &LinRow) -> bool
-    ensures { IsTrue result ↔ IsRow count row.now }
+fn one_if(real: bool) -> usize
+    ensures { result ≡ (if real then 1 else 0) }
 {
-    let terms = row.terms.as_slice();
-    is_sum(count, terms) && terms.len() <= 1024 && is_small(row.bound)
+    if real { 1 } else { 0 }
 }
 
-fn is_form(count: usize, constraint: &Constraint) -> bool
-    ensures { IsTrue result ↔ IsForm count constraint.now.form }
+/// 1 of a linear or `when` constraint with a real variable.
+fn one_if_real_row(vars: &[Var], form: &Form) -> usize
+    ensures { result ≡ one_if_real_row vars.now form.now }
 {
-    match &constraint.form {
-        Form::Linear(row) => is_row(count, row),
+    match form {
+        Form::Linear(row) => one_if(has_real(vars, row.terms.as_slice())),
+        Form::When { row, .. } => one_if(has_real(vars, row.terms.as_slice())),
+        _ => 0,
     }
 }
 
-fn are_forms(count: usize, constraints: &[Constraint]) -> bool
-    ensures { IsTrue result ↔ All (λ (c : Stated). IsForm count c.form) constraints.now }
+/// How many linear and `when` constraints have a real variable.
+fn real_rows_of(vars: &[Var], constraints: &[Constraint]) -> usize
+    ensures { result ≡ sum_by (λ (c : Stated). one_if_real_row vars.now c.form) constraints.now }
 {
-    constraints.iter().all(|c| is_form(count, c))
-}
-
-fn size_of(count: usize, constraint: &Constraint) -> u64
-    requires { IsForm count constraint.now.form }
-    ensures value { result ≡ size_of constraint.now.form }
-    ensures bound { result ≤ 1024 }
-{
-    match &constraint.form {
-        Form::Linear(row) => row.terms.len() as u64,
-    }
-}
-
-/// How many terms, literals and table members the constraints have.
-fn total_of(count: usize, constraints: &[Constraint]) -> u64
-    requires few { length constraints.now ≤ 16384 }
-    requires each { All (λ (c : Stated). IsForm count c.form) constraints.now }
-    ensures { result ≡ sum_by (λ (c : Stated). size_of c.form) constraints.now }
-{
-    let mut total: u64 = 0;
+    let mut total: usize = 0;
     for constraint in constraints {
-        total += size_of(count, constraint);
+        total += one_if_real_row(vars, &constraint.form);
     }
     total
 }
 
-/// Whether the constraints are within the limits, over the first `count` variables.
-pub(crate) fn are_constraints(count: usize, constraints: &[Constraint]) -> bool
-    ensures { IsTrue result ↔ AreConstraints count constraints.now }
+/// Whether the constraints are within the limits, and fit these variables.
+pub(crate) fn are_constraints(vars: &[Var], constraints: &[Constraint]) -> bool
+    ensures { IsTrue result ↔ AreConstraints vars.now constraints.now }
 {
-    constraints.len() <= 16384
-        && are_forms(count, constraints)
-        && total_of(count, constraints) <= 4_194_304
+    constraints.len() <= MOST_CONSTRAINTS
+        && constraints.iter().all(|c| is_constraint(vars, c))
+        && is_total_within(constraints)
+        && real_rows_of(vars, constraints) <= MOST_REAL_ROWS
 }
 
-fn is_goal(count: usize, goal: &Goal) -> bool
-    ensures { IsTrue result ↔ IsGoal count goal.now }
+fn is_goal(vars: &[Var], goal: &Goal) -> bool
+    ensures { IsTrue result ↔ IsGoal vars.now goal.now }
 {
     let terms = goal.terms.as_slice();
-    is_sum(count, terms) && terms.len() <= 4096 && is_small(goal.constant)
+    is_sum(vars, terms) && terms.len() <= MOST_GOAL_TERMS && is_small(goal.constant)
 }
 
 /// Whether the goal may stand among so many: one that asks for any solution stands alone, and is 0.
@@ -189,12 +137,32 @@ fn stands_alone(goals: usize, goal: &Goal) -> bool
     }
 }
 
-/// Whether the goals are within the limits, over the first `count` variables.
-pub(crate) fn are_goals(count: usize, goals: &[Goal]) -> bool
-    ensures { IsTrue result ↔ AreGoals count goals.now }
+/// Whether no term of the goal is of a real variable.
+fn has_no_real(vars: &[Var], goal: &Goal) -> bool
+    ensures { IsTrue result ↔ All (λ t. IsDiscrete vars.now t.0) goal.now.terms }
+{
+    goal.terms.as_slice().iter().all(|t| is_discrete(vars, t.0))
+}
+
+/// Whether no goal but the last is of a real variable.
+fn are_reals_last(vars: &[Var], goals: &[Goal]) -> bool
+    ensures { IsTrue result ↔ RealsLast vars.now goals.now }
+{
+    for i in 0..goals.len() {
+        if i + 1 < goals.len() && !has_no_real(vars, &goals[i]) {
+            return false;
+        }
+    }
+    true
+}
+
+/// Whether the goals are within the limits, and fit these variables.
+pub(crate) fn are_goals(vars: &[Var], goals: &[Goal]) -> bool
+    ensures { IsTrue result ↔ AreGoals vars.now goals.now }
 {
     !goals.is_empty()
-        && goals.len() <= 4
-        && goals.iter().all(|g| is_goal(count, g))
+        && goals.len() <= MOST_GOALS
+        && goals.iter().all(|g| is_goal(vars, g))
         && goals.iter().all(|g| stands_alone(goals.len(), g))
+        && are_reals_last(vars, goals)
 }

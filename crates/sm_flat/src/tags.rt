@@ -1,4 +1,9 @@
 //! Tags: how a constraint infers, relaxes and branches. No tag changes what a constraint means.
+ghost use Rattle.std.specs.Prelude.{◌≤◌, ◌↔◌, IsTrue, IfSome};
+ghost use Rattle.sm_kinds.specs.Limits.{greatest_sub};
+ghost use Rattle.sm_flat.specs.Forms.{AreTags};
+
+use sm_kinds::{GREATEST_BRANCH, GREATEST_SUB};
 
 /// How much a constraint infers.
 #[derive(Clone, Copy, Debug, PartialEq, Eq)]
@@ -42,4 +47,20 @@ pub struct Tags {
     pub split: SplitBy,
     /// The subproblem that it belongs to, where it is tagged with one; up to 4,095.
     pub sub: Option<u32>,
+}
+
+fn is_sub(sub: Option<u32>) -> bool
+    ensures { IsTrue result ↔ IfSome sub (λ g. g ≤ greatest_sub) }
+{
+    match sub {
+        Some(number) => number <= GREATEST_SUB,
+        None => true,
+    }
+}
+
+/// Whether the numbers of the tags are within the limits.
+pub(crate) fn are_tags(tags: &Tags) -> bool
+    ensures { IsTrue result ↔ AreTags tags.now }
+{
+    tags.branch <= GREATEST_BRANCH && is_sub(tags.sub)
 }

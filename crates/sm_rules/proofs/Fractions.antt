@@ -16,7 +16,7 @@ use Rattle.sm_frac.proofs.IntRing.{pos_abs}
 use Rattle.sm_step.specs.Verdicts.{parts_of}
 use Rattle.sm_flat.specs.declared.goal.Goal.{Goal}
 use Rattle.sm_flat.specs.Models.{FlatModel}
-use Rattle.sm_flat.specs.Points.{Point}
+use Rattle.sm_kinds.specs.Points.{Point}
 use Rattle.sm_rules.specs.Floors.{number_of, numbers_of, greater, Reaches, EndsNode}
 use Rattle.sm_rules.specs.Objectives.{level_of}
 

@@ -14,20 +14,23 @@ use Rattle.sm_flat.specs.declared.goal.Goal.{Goal}
 use Rattle.sm_flat.specs.declared.form.Constraint.{Constraint}
 use Rattle.sm_flat.specs.declared.form.Form.{Form}
 use Rattle.sm_flat.specs.declared.form.Form.TheVariants as form
-use Rattle.sm_flat.specs.declared.linear.Cmp.{Cmp}
-use Rattle.sm_flat.specs.declared.linear.Cmp.TheVariants.{AtMost, AtLeast, Equal}
-use Rattle.sm_flat.specs.declared.literal.Literal.{Literal}
-use Rattle.sm_flat.specs.declared.var.VarKind.{VarKind}
-use Rattle.sm_flat.specs.declared.var.VarKind.TheVariants.{Set}
-use Rattle.sm_flat.specs.Models.{FlatModel, LiesIn}
-use Rattle.sm_flat.specs.Points.{Point, point, point_of}
+use Rattle.sm_kinds.specs.declared.linear.Cmp.{Cmp}
+use Rattle.sm_kinds.specs.declared.linear.Cmp.TheVariants.{AtMost, AtLeast, Equal}
+use Rattle.sm_kinds.specs.declared.literal.Literal.{Literal}
+use Rattle.sm_kinds.specs.declared.var.VarKind.{VarKind}
+use Rattle.sm_kinds.specs.declared.var.VarKind.TheVariants.{Set}
+use Rattle.sm_flat.specs.Models.{FlatModel}
+use Rattle.sm_kinds.specs.Vars.{LiesIn}
+use Rattle.sm_kinds.specs.Points.{Point}
+use Rattle.sm_flat.specs.Assignments.{point, point_of}
 use Rattle.sm_flat.specs.Assignments.{Numbers}
-use Rattle.sm_flat.specs.Sums.{sum_at}
-use Rattle.sm_flat.specs.Sat.{Compares, SatLinear, Sat}
+use Rattle.sm_kinds.specs.Sums.{sum_at}
+use Rattle.sm_kinds.specs.Linear.{Compares, SatLinear}
+use Rattle.sm_flat.specs.Forms.{Sat}
 use Rattle.sm_flat.specs.Goals.{cost, IsBetterBy, IsBetter, HasValues}
 use Rattle.sm_flat.specs.Solutions.{Fits, Solves, SolvesOn, IsOptimum, HasNoSolution}
 use Rattle.sm_flat.specs.Limits.{IsFlat, IsGoal, AreGoals}
-use Rattle.sm_store.specs.Stores.{Extent, no_extent, extent_at, In, narrow, declared, fixed_value, least_of, IsStoreOf}
+use Rattle.sm_store.specs.Stores.{Extent, no_extent, extent_at, In, narrow, declared, fixed_value, fixed_at, fixed_point, least_of, IsStoreOf}
 use Rattle.sm_store.proofs.Parts.{store_declared, store_narrowed, in_declared}
 use Rattle.sm_step.specs.declared.line.Line.{Line}
 use Rattle.sm_step.specs.declared.line.Line.TheVariants as line
@@ -40,7 +43,9 @@ use Rattle.sm_rules.specs.Objectives.{costs, levels}
 use Rattle.sm_rules.specs.Floors.{EndsNode, AreFloors, numbers_of}
 use Rattle.sm_rules.specs.Nodes.{NodeView, no_node, CoversPart, Covers, TakesChild, LawfulChild}
 use Rattle.sm_rules.specs.Trees.{Tree, node_at, focus_of, close_focus, TreeSound, root_of, IsRefuted}
-use Rattle.sm_rules.specs.Violations.{fixed_at, fixed_point, AreFixed, vars_of, IsViolated}
+use Rattle.sm_rules.specs.Violations.{AreFixed, IsViolated}
+use Rattle.sm_kinds.proofs.SameValues.{EqualAt, EqualAt-whole}
+use Rattle.sm_flat.proofs.Meaning.{same_values, each_var}
 use Rattle.sm_rules.specs.States.{State}
 use Rattle.sm_rules.specs.Laws.{BeatsBest, IsNextBest, LawfulVerdict, AsksForAny, Allowed}
 use Rattle.sm_rules.specs.Steps.{after, start}
@@ -97,27 +102,14 @@ fixed_is Set (v ∷ []) n d some (inl here) = here
 fixed_is Set (v ∷ []) n d some (inr there) = absurd there
 fixed_is Set (v ∷ w ∷ vs) n d some h = absurd (cc)
 
-fixed_sum : (a : Point) (store : List Extent) (ts : List (ℕ × ℤ)) → In a store → AreFixed store (map (λ t. t.0) ts) → sum_at ts a.numerator ≡ sum_at ts (fixed_point store).numerator *ℤ a.denominator
-fixed_sum a store [] h fixed = sym (*ℤ_comm (pos 0) a.denominator ∙ *ℤ-zero a.denominator)
-fixed_sum a store (t ∷ ts) h fixed =
-    let some = All-head (λ i. IsSome (fixed_at store i)) t.0 (map (λ t. t.0) ts) fixed in
-    let e = extent_at store t.0 in
-    let one = fixed_is e.kind e.values (a.numerator t.0) a.denominator some (h t.0 (in_range_of store t.0 some)) in
-    let rest = fixed_sum a store ts h (All-tail (λ i. IsSome (fixed_at store i)) t.0 (map (λ t. t.0) ts) fixed) in
-    joined t.1 (least_of e) (sum_at ts (fixed_point store).numerator) (a.numerator t.0) (sum_at ts a.numerator) a.denominator one rest
-  where
-    joined : (c k r n s d : ℤ) → n ≡ k *ℤ d → s ≡ r *ℤ d → (c *ℤ n) +ℤ s ≡ ((c *ℤ k) +ℤ r) *ℤ d
-    joined c k r n s d e f = rw (e, f, +ℤ-*ℤ (c *ℤ k) r d, *ℤ_assoc c k d) refl
-
--- a comparison of two products with a positive factor is one of the factors
-compares_less : (c : Cmp) (x y d : ℤ) → pos 0 <ℤ d → Compares c (x *ℤ d) (y *ℤ d) → Compares c x (y *ℤ pos 1)
-compares_less AtMost x y d p h = by_lt_z y x (λ lt. let k = mul-lt y x d p lt in absurd (omega (arith, ints, k))) (λ le. omega (arith, ints))
-compares_less AtLeast x y d p h = by_lt_z x y (λ lt. let k = mul-lt x y d p lt in absurd (omega (arith, ints, k))) (λ le. omega (arith, ints))
-compares_less Equal x y d p h = let e = cancel_above x y d p h in omega (arith, ints)
-
-sat_fixed : (f : Form) (a : Point) (store : List Extent) → pos 0 <ℤ a.denominator → In a store → AreFixed store (vars_of f) → Sat f a → Sat f (fixed_point store)
-sat_fixed (form.Linear row) a store p h fixed sat =
-    compares_less row.cmp (sum_at row.terms (fixed_point store).numerator) row.bound a.denominator p (rw (fixed_sum a store row.terms h fixed) at sat)
+-- where all variables are fixed, what lies in the store has their values, whatever its denominator
+sat_fixed : (f : Form) (a : Point) (store : List Extent) → pos 0 <ℤ a.denominator → In a store → AreFixed store f → Sat f a → Sat f (fixed_point store)
+sat_fixed f a store p h fixed sat =
+    let equal : (v : ℕ) → IsSome (fixed_at store v) → EqualAt a (fixed_point store) v = λ v some.
+    let e = extent_at store v in
+    EqualAt-whole a (fixed_point store) v refl (fixed_is e.kind e.values (a.numerator v) a.denominator some (h v (in_range_of store v some))) in
+    let unit : pos 1 ≤ℤ a.denominator = omega (arith, ints) in
+    (same_values a (fixed_point store) unit (omega (arith, ints)) f (each_var (λ v. IsSome (fixed_at store v)) (EqualAt a (fixed_point store)) equal f fixed)).0 sat
 
 -- ---- nodes of a model's state
 

@@ -12,11 +12,12 @@ use Rattle.sm_frac.proofs.Order.{fraction_le_cross}
 use Rattle.sm_flat.specs.declared.goal.Goal.{Goal}
 use Rattle.sm_flat.specs.declared.goal.Sense.{Sense}
 use Rattle.sm_flat.specs.declared.goal.Sense.TheVariants.{Minimise, Maximise, Satisfy}
-use Rattle.sm_flat.specs.declared.var.VarKind.{VarKind}
-use Rattle.sm_flat.specs.declared.var.VarKind.TheVariants.{Set}
-use Rattle.sm_flat.specs.Models.{FlatModel, IsOneOf, LiesIn}
-use Rattle.sm_flat.specs.Points.{Point}
-use Rattle.sm_flat.specs.Sums.{sum_at}
+use Rattle.sm_kinds.specs.declared.var.VarKind.{VarKind}
+use Rattle.sm_kinds.specs.declared.var.VarKind.TheVariants.{Set}
+use Rattle.sm_flat.specs.Models.{FlatModel}
+use Rattle.sm_kinds.specs.Vars.{IsOneOf, LiesIn}
+use Rattle.sm_kinds.specs.Points.{Point}
+use Rattle.sm_kinds.specs.Sums.{sum_at}
 use Rattle.sm_flat.specs.Goals.{minimised, worth, cost}
 use Rattle.sm_store.specs.Stores.{Extent, extent_at, Lies, In, IsOrdered, least_of, greatest_of}
 use Rattle.sm_rules.specs.Floors.{AreFloors, number_of, numbers_of}

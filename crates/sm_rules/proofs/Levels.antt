@@ -13,11 +13,12 @@ use Rattle.sm_frac.proofs.CommonDenominator.{fraction_sum, whole_over, whole_le}
 use Rattle.sm_flat.specs.declared.goal.Goal.{Goal}
 use Rattle.sm_flat.specs.declared.goal.Sense.{Sense}
 use Rattle.sm_flat.specs.declared.goal.Sense.TheVariants.{Minimise, Maximise, Satisfy}
-use Rattle.sm_flat.specs.declared.var.VarKind.{VarKind}
-use Rattle.sm_flat.specs.declared.var.VarKind.TheVariants.{Set}
-use Rattle.sm_flat.specs.Models.{FlatModel, IsOneOf, LiesIn, var_at}
-use Rattle.sm_flat.specs.Points.{Point}
-use Rattle.sm_flat.specs.Sums.{sum_at}
+use Rattle.sm_kinds.specs.declared.var.VarKind.{VarKind}
+use Rattle.sm_kinds.specs.declared.var.VarKind.TheVariants.{Set}
+use Rattle.sm_flat.specs.Models.{FlatModel}
+use Rattle.sm_kinds.specs.Vars.{IsOneOf, LiesIn, var_at}
+use Rattle.sm_kinds.specs.Points.{Point}
+use Rattle.sm_kinds.specs.Sums.{sum_at}
 use Rattle.sm_flat.specs.Goals.{minimised, worth, cost, IsBetterBy}
 use Rattle.sm_flat.specs.Solutions.{Fits}
 use Rattle.sm_rules.specs.Floors.{Level, Reaches, EndsNode, AreFloors, CostLess, IsWhole, FitsLevel, FitLevels}

@@ -9,3 +9,5 @@ pub mod Fractions
 pub mod Sums
 pub mod Kept
 pub mod Children
+pub mod Goals
+pub mod Violating

@@ -2,11 +2,11 @@
 use Rattle.std.proofs.Common.{◌≡◌, ℕ, ◌<◌, ◌⊎◌, Bool, true, false, cond, List, [], ◌∷◌, ◌++◌, length, map, refl, ◌∙◌, arith, inl, inr}
 use Rattle.std.specs.Prelude.{ℤ, pos, ◌*ℤ◌, ◌<ℤ◌, All, int_lt, ◌==◌, ◌&&◌}
 use Rattle.sm_frac.specs.Rational.{ℚ, ◌≤ℚ◌}
-use Rattle.sm_flat.specs.declared.literal.Literal.{Literal}
+use Rattle.sm_kinds.specs.declared.literal.Literal.{Literal}
 use Rattle.sm_flat.specs.declared.goal.Goal.{Goal}
-use Rattle.sm_flat.specs.Literals.{complement}
+use Rattle.sm_kinds.specs.Literals.{complement}
 use Rattle.sm_flat.specs.Models.{FlatModel}
-use Rattle.sm_flat.specs.Points.{Point}
+use Rattle.sm_kinds.specs.Points.{Point}
 use Rattle.sm_store.specs.Stores.{Extent, In, narrow}
 use Rattle.sm_store.proofs.Narrowing.{In-narrow, In-from_narrow}
 use Rattle.sm_rules.specs.declared.node.Status.{Status}

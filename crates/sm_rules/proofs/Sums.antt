@@ -7,13 +7,12 @@ use Rattle.std.proofs.Math.ListN.{get_or-map}
 use Rattle.sm_frac.specs.declared.fraction.Frac.{Frac}
 use Rattle.sm_flat.specs.declared.goal.Goal.{Goal}
 use Rattle.sm_flat.specs.declared.goal.Sense.{Sense}
-use Rattle.sm_flat.specs.Points.{Point}
+use Rattle.sm_kinds.specs.Points.{Point}
 use Rattle.sm_flat.specs.Goals.{minimised, HasValuesBy}
 use Rattle.sm_store.specs.Stores.{Extent, extent_at}
 use Rattle.sm_step.specs.Verdicts.{parts_of}
 use Rattle.sm_rules.specs.Floors.{greater, raised}
 use Rattle.sm_rules.specs.Objectives.{least_product, least_sum, least_cost, least_costs}
-use Rattle.sm_rules.specs.Violations.{fixed_at, AreFixed}
 
 pub least_sum_more : (sense : Sense) (store : List Extent) (ts : List (ℕ × ℤ)) (i : ℕ) (d : ℕ × ℤ) → i < length ts → least_sum sense store (drop i ts) ≡ least_product (minimised sense (get_or ts i d).1) (extent_at store (get_or ts i d).0) +ℤ least_sum sense store (drop (i + 1) ts)
 least_sum_more sense store ts i d lt = at_drop_more (λ xs. least_sum sense store xs) ts i d lt
@@ -41,12 +40,3 @@ values_length [] a [] h = refl
 values_length [] a (v ∷ vs) h = absurd h
 values_length (g ∷ gs) a [] h = absurd h
 values_length (g ∷ gs) a (v ∷ vs) h = ap (λ (n : ℕ). suc n) (values_length gs a vs h.1)
-
--- of the variables of terms, or of the terms
-pub fixed_terms : (store : List Extent) (ts : List (ℕ × ℤ)) → AreFixed store (map (λ t. t.0) ts) ↔ All (λ t. IsSome (fixed_at store t.0)) ts
-fixed_terms store ts = (
-  λ h k d lt.
-      let lt' : k < length (map (λ (t : ℕ × ℤ). t.0) ts) = omega (arith, length-map ts (λ (t : ℕ × ℤ). t.0)) in
-      rw (get_or-map (λ (t : ℕ × ℤ). t.0) ts k d) at (h k d.0 lt'),
-  λ h. All-map (λ i. IsSome (fixed_at store i)) (λ (t : ℕ × ℤ). t.0) ts h,
-)

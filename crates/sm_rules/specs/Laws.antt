@@ -3,7 +3,7 @@ use Rattle.std.specs.Prelude.{◌≡◌, ◌≢◌, ℕ, List, length, map, ℤ,
 use Rattle.sm_flat.specs.declared.goal.Sense.{Sense}
 use Rattle.sm_flat.specs.declared.goal.Sense.TheVariants.{Satisfy}
 use Rattle.sm_flat.specs.Models.{FlatModel}
-use Rattle.sm_flat.specs.Points.{point, point_of}
+use Rattle.sm_flat.specs.Assignments.{point, point_of}
 use Rattle.sm_flat.specs.Assignments.{Numbers, IsAssignment}
 use Rattle.sm_flat.specs.Goals.{goal_at, IsBetter, HasValues}
 use Rattle.sm_flat.specs.Solutions.{Solves}

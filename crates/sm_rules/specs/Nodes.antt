@@ -1,9 +1,9 @@
 -- The nodes of a tree, and what each still covers.
 use Rattle.std.specs.Prelude.{◌≡◌, ℕ, List, [], ◌∷◌, ℤ, pos, Bool, true, false}
-use Rattle.sm_flat.specs.declared.literal.Literal.{Literal}
-use Rattle.sm_flat.specs.declared.literal.Test.TheVariants.{AtMost}
-use Rattle.sm_flat.specs.Literals.{complement}
-use Rattle.sm_flat.specs.Points.{Point}
+use Rattle.sm_kinds.specs.declared.literal.Literal.{Literal}
+use Rattle.sm_kinds.specs.declared.literal.Test.TheVariants.{AtMost}
+use Rattle.sm_kinds.specs.Literals.{complement}
+use Rattle.sm_kinds.specs.Points.{Point}
 use Rattle.sm_store.specs.Stores.{Extent, In, narrow, Narrows}
 use Rattle.sm_rules.specs.declared.node.Status.{Status}
 use Rattle.sm_rules.specs.declared.node.Status.TheVariants.{Open, Half, Split}

@@ -1,13 +1,15 @@
 -- What the goals cost, all taken as minimised: at an assignment, and at least over the boxes of a store.
-use Rattle.std.specs.Prelude.{ℕ, List, [], ◌∷◌, map, ℤ, pos, ◌+ℤ◌, ◌*ℤ◌, int_le, unsigned_abs, Bool, true, if◌then◌else◌}
+use Rattle.std.specs.Prelude.{ℕ, ◌<◌, ◌≤◌, List, [], ◌∷◌, length, map, All, ℤ, pos, ◌+ℤ◌, ◌*ℤ◌, int_le, unsigned_abs, Bool, true, if◌then◌else◌}
 use Rattle.std.specs.List.{list_all}
 use Rattle.sm_frac.specs.Rational.{ℚ, fraction}
 use Rattle.sm_flat.specs.declared.goal.Goal.{Goal}
 use Rattle.sm_flat.specs.declared.goal.Sense.{Sense}
-use Rattle.sm_flat.specs.declared.var.VarKind.{VarKind}
-use Rattle.sm_flat.specs.declared.var.VarKind.TheVariants.{Set}
-use Rattle.sm_flat.specs.Models.{FlatModel, var_at}
-use Rattle.sm_flat.specs.Points.{Point}
+use Rattle.sm_kinds.specs.declared.var.VarKind.{VarKind}
+use Rattle.sm_kinds.specs.declared.var.VarKind.TheVariants.{Set}
+use Rattle.sm_flat.specs.Models.{FlatModel}
+use Rattle.sm_kinds.specs.Vars.{var_at}
+use Rattle.sm_kinds.specs.Limits.{IsSmall, most_goal_terms}
+use Rattle.sm_kinds.specs.Points.{Point}
 use Rattle.sm_flat.specs.Goals.{minimised, cost}
 use Rattle.sm_store.specs.Stores.{Extent, extent_at, least_of, greatest_of}
 use Rattle.sm_rules.specs.Floors.{Level}
@@ -18,6 +20,13 @@ costs_by goals a = map (λ g. fraction (cost g a) (unsigned_abs a.denominator)) 
 
 abbrev pub costs : FlatModel → Point → List ℚ
 costs m a = costs_by m.goals a
+
+-- the goal is a sum of few terms with small coefficients, over the first n variables
+pub record IsGoalOver (n : ℕ) (g : Goal) : Type 0 where
+  pub known : All (λ t. t.0 < n) g.terms
+  pub few : length g.terms ≤ most_goal_terms
+  pub small : All (λ t. IsSmall t.1) g.terms
+  pub constant : IsSmall g.constant
 
 -- the least product of the coefficient with a number between the ends of the extent
 abbrev pub least_product : ℤ → Extent → ℤ

@@ -1,6 +1,6 @@
 -- Places of nodes in a list.
 use Rattle.std.specs.Prelude.{◌≡◌, ℕ, ◌<◌, List, [], ◌∷◌, ◌++◌, length, AllPairs, slice_index_or, slice_set}
-use Rattle.sm_flat.specs.declared.literal.Literal.{Literal}
+use Rattle.sm_kinds.specs.declared.literal.Literal.{Literal}
 use Rattle.sm_flat.specs.Models.{FlatModel}
 use Rattle.sm_rules.specs.Nodes.{NodeView, no_node, with_child}
 use Rattle.sm_rules.specs.Trees.{child_of}

@@ -1,7 +1,8 @@
 -- What each allowed line keeps, for every set of constraints that has those that the lines name.
 use Rattle.std.specs.Prelude.{◌≡◌, ℕ, Bool, true, List, [], ◌∷◌, length, pos, ◌<ℤ◌, Option, Some, None, IfSome, All}
 use Rattle.sm_flat.specs.Models.{FlatModel}
-use Rattle.sm_flat.specs.Points.{Point, point_of}
+use Rattle.sm_kinds.specs.Points.{Point}
+use Rattle.sm_flat.specs.Assignments.{point_of}
 use Rattle.sm_flat.specs.Assignments.{Numbers, IsAssignment}
 use Rattle.sm_flat.specs.Goals.{IsBetter}
 use Rattle.sm_flat.specs.Solutions.{Solves, SolvesOn}

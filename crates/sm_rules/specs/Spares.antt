@@ -1,6 +1,6 @@
 -- What a node with one child keeps for the other child.
 use Rattle.std.specs.Prelude.{◌≡◌, ◌<◌, ◌≤◌, ◌^◌, List, length, Option, Some, unsigned_abs}
-use Rattle.sm_flat.specs.declared.literal.Literal.{Literal}
+use Rattle.sm_kinds.specs.declared.literal.Literal.{Literal}
 use Rattle.sm_store.specs.Stores.{Extent}
 use Rattle.sm_rules.specs.declared.node.Status.{Status}
 use Rattle.sm_rules.specs.declared.node.Status.TheVariants.{Open, Half, Split}

@@ -1,13 +1,13 @@
 //! Which lines are lawful.
 ghost use Rattle.std.specs.Prelude.{◌≡◌, ◌≢◌, ◌↔◌, All, Some, IsTrue, IfOk, IfSome, IfNone, MatchOption, map, length};
-ghost use Rattle.sm_flat.specs.Points.{point_of};
+ghost use Rattle.sm_flat.specs.Assignments.{point_of};
 ghost use Rattle.sm_flat.specs.Assignments.{Numbers, IsAssignment};
 ghost use Rattle.sm_flat.specs.Goals.{IsBetter, HasValues, goal_at};
 ghost use Rattle.sm_step.specs.Verdicts.{parts_of};
 ghost use Rattle.sm_rules.specs.Nodes.{LawfulChild, TakesChild};
 ghost use Rattle.sm_rules.specs.Laws.{BeatsBest, IsNextBest, AsksForAny};
 ghost use Rattle.sm_rules.specs.Steps.{SaysVerdict};
-ghost use Rattle.sm_flat.specs.Literals.{complement};
+ghost use Rattle.sm_kinds.specs.Literals.{complement};
 ghost use Rattle.sm_store.specs.Stores.{Narrows};
 
 use crate::cause::Cause;

@@ -1,7 +1,7 @@
 //! The state of a log, and its step by one line.
 ghost use Rattle.std.specs.Prelude.{◌≡◌, ◌↔◌, ◌+◌, ℕ, Bool, true, All, Some, IsTrue, IsSome, IfOk, OnOk, OnErr, IfErr, IfSome, IfNone, length, slice_get};
 ghost use Rattle.std.specs.Option.{option_copied, option_map};
-ghost use Rattle.sm_flat.specs.Points.{point_of};
+ghost use Rattle.sm_flat.specs.Assignments.{point_of};
 ghost use Rattle.sm_flat.specs.Assignments.{IsAssignment};
 ghost use Rattle.sm_flat.specs.Goals.{IsBetter};
 ghost use Rattle.sm_step.specs.Verdicts.{parts_of, IsTrueOf};

@@ -44,8 +44,8 @@ impl Model for Node {
 
 impl Node {
     ghost use Rattle.std.specs.Prelude.{◌≡◌, ◌↔◌, map, IsTrue, IfSome, IfNone};
-    ghost use Rattle.sm_flat.specs.Literals.{complement};
-    ghost use Rattle.sm_flat.specs.declared.literal.Literal.{Literal as Stated};
+    ghost use Rattle.sm_kinds.specs.Literals.{complement};
+    ghost use Rattle.sm_kinds.specs.declared.literal.Literal.{Literal as Stated};
     ghost use Rattle.sm_step.specs.Verdicts.{parts_of};
     ghost use Rattle.sm_rules.specs.Halves.{HasOneChild};
 

@@ -4,12 +4,12 @@ ghost use Rattle.std.specs.Ordering.{MatchOrdering};
 ghost use Rattle.sm_frac.specs.Rational.{◌<ℚ◌};
 ghost use Rattle.sm_rules.specs.Standings.{Stands};
 ghost use Rattle.sm_flat.specs.Limits.{IsFlat, IsGoal};
-ghost use Rattle.sm_flat.specs.Points.{point_of};
+ghost use Rattle.sm_flat.specs.Assignments.{point_of};
 ghost use Rattle.sm_flat.specs.Goals.{goal_at, minimised, worth, cost, IsBetter, HasValues};
 ghost use Rattle.sm_store.specs.Stores.{extent_at};
 ghost use Rattle.sm_step.specs.Verdicts.{parts_of};
 ghost use Rattle.sm_rules.specs.Floors.{number_of, numbers_of, greater, raised, Reaches, EndsNode};
-ghost use Rattle.sm_rules.specs.Objectives.{least_product, least_sum, least_cost, least_costs, is_discrete, is_whole, level_of, levels};
+ghost use Rattle.sm_rules.specs.Objectives.{IsGoalOver, least_product, least_sum, least_cost, least_costs, is_discrete, is_whole, level_of, levels};
 
 use sm_flat::{Assignment, Flat, Goal, Sense, VarKind, value};
 use sm_frac::{Frac, compare_ratios};
@@ -85,7 +85,7 @@ fn least_sum(sense: Sense, store: &Store, terms: &[(u32, i64)]) -> i128
 
 /// The least that the goal costs over the boxes of the store.
 fn least_cost(store: &Store, goal: &Goal) -> i128
-    requires { IsGoal (length store.now) goal.now }
+    requires { IsGoalOver (length store.now) goal.now }
     ensures value { result ≡ least_cost store.now goal.now }
     ensures bound { unsigned_abs result < 2 ^ 127 }
 {
@@ -103,7 +103,7 @@ fn whole(number: i128) -> Frac
 
 /// What the goal costs at least over the boxes of the store, over 1.
 fn least_floor(store: &Store, goal: &Goal) -> Frac
-    requires { IsGoal (length store.now) goal.now }
+    requires { IsGoalOver (length store.now) goal.now }
     ensures { parts_of result ≡ (least_cost store.now goal.now, pos 1) }
 {
     whole(least_cost(store, goal))
@@ -115,7 +115,7 @@ pub(crate) fn least_floors(
     goals: &[Goal],
     store: &Store,
 ) -> Result<Vec<Frac>, AllocError>
-    requires { All (λ g. IsGoal (length store.now) g) goals.now }
+    requires { All (IsGoalOver (length store.now)) goals.now }
     ensures { IfOk result (λ v. map parts_of v.items ≡ least_costs goals.now store.now) }
 {
     let mut floors = Vec::with_capacity(alloc, goals.len())?;
@@ -138,7 +138,7 @@ fn greater(first: Frac, second: Frac) -> Frac
 
 /// Raises the floors to what each goal costs at least over the boxes of the store, where that is greater.
 pub(crate) fn raise_floors(floors: &mut Vec<Frac>, goals: &[Goal], store: &Store)
-    requires goals { All (λ g. IsGoal (length store.now) g) goals.now }
+    requires goals { All (IsGoalOver (length store.now)) goals.now }
     requires each { length floors.old.items ≡ length goals.now }
     ensures { map parts_of floors.new.items ≡ raised (map parts_of floors.old.items) (least_costs goals.now store.now) }
 {
@@ -185,7 +185,7 @@ fn is_discrete(kind: VarKind) -> bool
 
 /// Whether all variables of the goal have whole values alone.
 fn is_whole(flat: &Flat, goal: &Goal) -> bool
-    requires { IsGoal (length flat.now.vars) goal.now }
+    requires { IsGoalOver (length flat.now.vars) goal.now }
     ensures { result ≡ is_whole flat.now goal.now }
 {
     for term in goal.terms.as_slice() {

@@ -1,7 +1,7 @@
 //! The tree of a log: the nodes whose own trees aren't refuted.
 ghost use Rattle.std.specs.Prelude.{◌≡◌, ◌≢◌, ◌+◌, ◌<◌, ◌≤◌, ◌^◌, ◌↔◌, ℕ, true, false, All, Contains, IsTrue, IsSome, IfOk, OnOk, OnErr, IfSome, IfNone, length, map, drop, slice_set, unsigned_abs};
 ghost use Rattle.sm_flat.specs.Limits.{IsFlat};
-ghost use Rattle.sm_flat.specs.Literals.{complement};
+ghost use Rattle.sm_kinds.specs.Literals.{complement};
 ghost use Rattle.sm_store.specs.Stores.{declared, narrow, IsStoreOf};
 ghost use Rattle.sm_step.specs.Verdicts.{parts_of};
 ghost use Rattle.sm_rules.specs.Nodes.{NodeView, no_node, is_split, LawfulChild};

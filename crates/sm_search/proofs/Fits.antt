@@ -8,13 +8,15 @@ use Rattle.std.proofs.lemmas.List.Elements.{All-head, All-tail, All-cons, All-ni
 use Rattle.sm_frac.specs.Rational.{◌≤ℚ◌}
 use Rattle.sm_frac.proofs.Order.{le_equal, fraction_le_cross}
 use Rattle.sm_frac.proofs.IntRing.{pos_abs}
-use Rattle.sm_flat.specs.declared.literal.Literal.{Literal}
+use Rattle.sm_kinds.specs.declared.literal.Literal.{Literal}
 use Rattle.sm_flat.specs.declared.goal.Goal.{Goal}
-use Rattle.sm_flat.specs.declared.var.VarKind.{VarKind}
-use Rattle.sm_flat.specs.declared.var.VarKind.TheVariants.{Set}
-use Rattle.sm_flat.specs.Literals.{complement}
-use Rattle.sm_flat.specs.Limits.{IsFlat, IsDomain}
-use Rattle.sm_flat.specs.Models.{FlatModel, var_at, no_var}
+use Rattle.sm_kinds.specs.declared.var.VarKind.{VarKind}
+use Rattle.sm_kinds.specs.declared.var.VarKind.TheVariants.{Set}
+use Rattle.sm_kinds.specs.Literals.{complement}
+use Rattle.sm_flat.specs.Limits.{IsFlat}
+use Rattle.sm_kinds.specs.Vars.{IsDomain}
+use Rattle.sm_flat.specs.Models.{FlatModel}
+use Rattle.sm_kinds.specs.Vars.{var_at, no_var}
 use Rattle.sm_store.specs.Stores.{Extent, no_extent, extent_at, extent_of, declared, narrowed, narrow, Narrows}
 use Rattle.sm_store.proofs.Parts.{extent_declared}
 use Rattle.sm_step.specs.declared.line.Line.{Line}

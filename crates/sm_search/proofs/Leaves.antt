@@ -3,30 +3,35 @@ use Rattle.std.proofs.Common.{◌≡◌, ℕ, ◌-◌, ◌<◌, Bool, true, fals
 use Rattle.std.specs.Prelude.{ℤ, pos, ◌+ℤ◌, ◌*ℤ◌, ◌<ℤ◌, All, IsSome, unsigned_abs, slice_get, int_le}
 use Rattle.std.proofs.lemmas.Int.{ints}
 use Rattle.std.proofs.lemmas.List.{length-map, get_or_default}
-use Rattle.std.proofs.lemmas.List.Elements.{All-head, All-tail, All-cons, All-nil}
+use Rattle.std.proofs.lemmas.List.Elements.{All-head, All-tail}
 use Rattle.std.proofs.lemmas.Option.{slice_get_within, get_or_from_slice_get}
 use Rattle.std.proofs.Math.Path.{fun_ext}
 use Rattle.std.proofs.Math.ListN.{get_or-map}
 use Rattle.sm_frac.specs.Rational.{ℚ, fraction}
 use Rattle.sm_flat.specs.declared.form.Constraint.{Constraint}
 use Rattle.sm_flat.specs.declared.form.Form.{Form}
-use Rattle.sm_flat.specs.declared.form.Form.TheVariants as form
 use Rattle.sm_flat.specs.declared.goal.Goal.{Goal}
 use Rattle.sm_flat.specs.declared.goal.Sense.{Sense}
-use Rattle.sm_flat.specs.declared.var.VarKind.{VarKind}
-use Rattle.sm_flat.specs.declared.var.VarKind.TheVariants.{Set}
-use Rattle.sm_flat.specs.Models.{FlatModel, IsOneOf, LiesIn, var_at}
-use Rattle.sm_flat.specs.Points.{Point, point}
+use Rattle.sm_kinds.specs.declared.var.Var.{Var}
+use Rattle.sm_kinds.specs.declared.var.VarKind.{VarKind}
+use Rattle.sm_kinds.specs.declared.var.VarKind.TheVariants.{Set}
+use Rattle.sm_flat.specs.Models.{FlatModel}
+use Rattle.sm_kinds.specs.Vars.{IsOneOf, LiesIn, var_at}
+use Rattle.sm_kinds.specs.Points.{Point}
+use Rattle.sm_flat.specs.Assignments.{point}
 use Rattle.sm_flat.specs.Assignments.{IsAssignment}
-use Rattle.sm_flat.specs.Sums.{sum_at}
-use Rattle.sm_flat.specs.Sat.{Sat}
+use Rattle.sm_kinds.specs.Sums.{sum_at}
+use Rattle.sm_flat.specs.Forms.{Sat}
 use Rattle.sm_flat.specs.Goals.{minimised, cost, IsBetter, IsBetterBy}
 use Rattle.sm_flat.specs.Solutions.{Fits}
-use Rattle.sm_flat.specs.Limits.{IsFlat, IsForm}
-use Rattle.sm_store.specs.Stores.{Extent, no_extent, extent_at, least_of, greatest_of, fixed_value, IsStoreOf}
+use Rattle.sm_flat.specs.Limits.{IsFlat}
+use Rattle.sm_flat.specs.Forms.{IsForm}
+use Rattle.sm_store.specs.Stores.{Extent, no_extent, extent_at, least_of, greatest_of, fixed_value, fixed_at, fixed_point, IsStoreOf}
 use Rattle.sm_rules.specs.Floors.{Level, AreFloors, EndsNode, number_of, numbers_of}
 use Rattle.sm_rules.specs.Objectives.{costs, costs_by, least_product, least_sum, least_cost, least_costs, level_of, levels}
-use Rattle.sm_rules.specs.Violations.{fixed_at, fixed_point, AreFixed, vars_of, IsViolated}
+use Rattle.sm_rules.specs.Violations.{AreFixed, IsViolated}
+use Rattle.sm_flat.proofs.Meaning.{each_var}
+use Rattle.sm_flat.proofs.Known.{IsKnown, form_known}
 use Rattle.sm_rules.proofs.LeastCosts.{minimised-sum, minimised-product, minimised-zero}
 use Rattle.sm_rules.proofs.Levels.{costs_better, ends_where_reached}
 use Rattle.sm_search.specs.Leaves.{AreAllFixed, first_values}
@@ -114,28 +119,23 @@ some_of Set [] one = absurd (omega arith)
 some_of Set (v ∷ []) one = refl
 some_of Set (v ∷ w ∷ vs) one = absurd (omega arith)
 
-vars_fixed : (store : List Extent) (ts : List (ℕ × ℤ)) → AreAllFixed store → All (λ t. t.0 < length store) ts → AreFixed store (map (λ t. t.0) ts)
-vars_fixed store [] fixed known = All-nil _
-vars_fixed store (t ∷ ts) fixed known =
-    let e = extent_at store t.0 in
-    All-cons (λ i. IsSome (fixed_at store i)) t.0 (map (λ t. t.0) ts) (some_of e.kind e.values (fixed t.0 (All-head (λ t. t.0 < length store) t ts known))) (vars_fixed store ts fixed (All-tail (λ t. t.0 < length store) t ts known))
-
-form_fixed : (n : ℕ) (store : List Extent) (f : Form) → length store ≡ n → AreAllFixed store → IsForm n f → AreFixed store (vars_of f)
-form_fixed n store (form.Linear row) wide fixed fits = vars_fixed store row.terms fixed (rw wide fits.sum.known)
+form_fixed : (vars : List Var) (store : List Extent) (f : Form) → length store ≡ length vars → AreAllFixed store → IsForm vars f → AreFixed store f
+form_fixed vars store f wide fixed fits =
+    each_var (IsKnown vars) (λ i. IsSome (fixed_at store i)) (λ i known. let e = extent_at store i in some_of e.kind e.values (fixed i (omega (arith, wide, known)))) f (form_known vars f fits)
 
 pub violated_leaf : (m : FlatModel) (store : List Extent) (k : ℕ) (c : Constraint) → IsFlat m → IsStoreOf m store → AreAllFixed store → slice_get m.constraints k ≡ Some c → (Sat c.form (fixed_point store) → ⊥) → IsViolated m store k
 violated_leaf m store k c flat of fixed is fails = record {
   constraint = c;
   is = is;
-  fixed = form_fixed (length m.vars) store c.form of.wide fixed (limits_at m k c flat is);
+  fixed = form_fixed m.vars store c.form of.wide fixed (limits_at m k c flat is);
   fails = fails;
 }
   where
-    limits_at : (m : FlatModel) (k : ℕ) (c : Constraint) → IsFlat m → slice_get m.constraints k ≡ Some c → IsForm (length m.vars) c.form
+    limits_at : (m : FlatModel) (k : ℕ) (c : Constraint) → IsFlat m → slice_get m.constraints k ≡ Some c → IsForm m.vars c.form
     limits_at m k c flat is =
         let e = get_or_from_slice_get m.constraints k c c is in
-        let P : Constraint → Type 0 = λ c. IsForm (length m.vars) c.form in
-        subst P e (flat.constraints.each k c (slice_get_within m.constraints k c is))
+        let P : Constraint → Type 0 = λ c. IsForm m.vars c.form in
+        subst P e (flat.constraints.each k c (slice_get_within m.constraints k c is)).fits
 
 -- ---- it is an assignment
 

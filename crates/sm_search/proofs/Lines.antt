@@ -2,16 +2,17 @@
 use Rattle.std.proofs.Common.{◌≡◌, ◌≢◌, ℕ, zero, suc, ◌^◌, ◌<◌, List, [], ◌∷◌, Option, Some, None, length, map, refl, sym, ap, subst, ◌∙◌, arith}
 use Rattle.std.specs.Prelude.{ℤ, pos, ◌<ℤ◌, All, IfSome, IsSome, MatchOption, slice_get}
 use Rattle.sm_frac.specs.declared.fraction.Frac.{Frac}
-use Rattle.sm_flat.specs.declared.literal.Literal.{Literal}
+use Rattle.sm_kinds.specs.declared.literal.Literal.{Literal}
 use Rattle.sm_flat.specs.declared.goal.Goal.{Goal}
 use Rattle.sm_flat.specs.declared.form.Constraint.{Constraint}
-use Rattle.sm_flat.specs.Sat.{Sat}
+use Rattle.sm_flat.specs.Forms.{Sat}
 use Rattle.sm_flat.specs.Models.{FlatModel}
-use Rattle.sm_flat.specs.Points.{Point, point_of}
+use Rattle.sm_kinds.specs.Points.{Point}
+use Rattle.sm_flat.specs.Assignments.{point_of}
 use Rattle.sm_flat.specs.Assignments.{Numbers}
 use Rattle.sm_flat.specs.Goals.{IsBetter, HasValuesBy, HasValues}
 use Rattle.sm_flat.specs.Solutions.{Solves, Fits}
-use Rattle.sm_store.specs.Stores.{Extent, least_of, IsStoreOf}
+use Rattle.sm_store.specs.Stores.{Extent, least_of, fixed_point, IsStoreOf}
 use Rattle.std.proofs.lemmas.Int.{ints}
 use Rattle.std.proofs.lemmas.List.{length-map}
 use Rattle.sm_step.specs.declared.line.Line.{Line}
@@ -28,7 +29,7 @@ use Rattle.sm_rules.specs.Floors.{EndsNode, numbers_of}
 use Rattle.sm_rules.specs.Objectives.{levels}
 use Rattle.sm_rules.specs.Trees.{Tree, node_at, focus_of, IsRefuted}
 use Rattle.sm_rules.specs.Halves.{HasOneChild, IsLastHalf}
-use Rattle.sm_rules.specs.Violations.{IsViolated, fixed_point}
+use Rattle.sm_rules.specs.Violations.{IsViolated}
 use Rattle.sm_rules.specs.States.{State}
 use Rattle.sm_rules.specs.Laws.{BeatsBest, IsNextBest, AsksForAny, LawfulVerdict, Allowed}
 use Rattle.sm_rules.specs.Steps.{after, start, IsRefusedFor}

@@ -2,11 +2,11 @@
 use Rattle.std.proofs.Common.{◌≡◌, ℕ, zero, suc, ◌-◌, ◌<◌, ◌≤◌, ◌^◌, Bool, true, false, cond, List, [], ◌∷◌, length, get_or, refl, arith}
 use Rattle.std.specs.Prelude.{ℤ, pos, ◌+ℤ◌, ◌-ℤ◌, ◌<ℤ◌, ◌≤ℤ◌, filter, unsigned_abs}
 use Rattle.std.proofs.lemmas.Int.{ints}
-use Rattle.sm_flat.specs.declared.literal.Literal.{Literal}
-use Rattle.sm_flat.specs.declared.literal.Test.TheVariants.{AtMost, AtLeast}
-use Rattle.sm_flat.specs.declared.var.VarKind.{VarKind}
-use Rattle.sm_flat.specs.declared.var.VarKind.TheVariants.{Set}
-use Rattle.sm_flat.specs.Literals.{passes, complement}
+use Rattle.sm_kinds.specs.declared.literal.Literal.{Literal}
+use Rattle.sm_kinds.specs.declared.literal.Test.TheVariants.{AtMost, AtLeast}
+use Rattle.sm_kinds.specs.declared.var.VarKind.{VarKind}
+use Rattle.sm_kinds.specs.declared.var.VarKind.TheVariants.{Set}
+use Rattle.sm_kinds.specs.Literals.{passes, complement}
 use Rattle.sm_store.specs.Stores.{Extent, extent_at, kept, IsOrdered, least_of, greatest_of}
 use Rattle.sm_search.specs.Leaves.{IsUnfixed}
 use Rattle.sm_search.specs.Picks.{Splits}

@@ -1,6 +1,6 @@
 -- What holds of a search all along.
 use Rattle.std.specs.Prelude.{◌≡◌, ◌≢◌, ◌⊎◌, ℕ, ◌<◌, List, length, true, ℤ, pos, All, None, IsSome, IfSome}
-use Rattle.sm_flat.specs.Literals.{complement}
+use Rattle.sm_kinds.specs.Literals.{complement}
 use Rattle.sm_flat.specs.Models.{FlatModel}
 use Rattle.sm_store.specs.Stores.{Extent, extent_at, narrow}
 use Rattle.sm_step.specs.declared.line.Line.{Line}

@@ -4,9 +4,10 @@ use Rattle.sm_flat.specs.declared.form.Constraint.{Constraint}
 use Rattle.sm_flat.specs.Models.{FlatModel}
 use Rattle.sm_flat.specs.declared.goal.Goal.{Goal}
 use Rattle.sm_flat.specs.Goals.{worth}
-use Rattle.sm_flat.specs.Points.{Point, point_of}
+use Rattle.sm_kinds.specs.Points.{Point}
+use Rattle.sm_flat.specs.Assignments.{point_of}
 use Rattle.sm_flat.specs.Assignments.{Numbers}
-use Rattle.sm_flat.specs.Sat.{Sat}
+use Rattle.sm_flat.specs.Forms.{Sat}
 use Rattle.sm_store.specs.Stores.{Extent, extent_at, least_of}
 
 -- each variable has just one value left

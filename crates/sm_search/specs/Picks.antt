@@ -1,7 +1,7 @@
 -- Where a node is split.
 use Rattle.std.specs.Prelude.{List}
-use Rattle.sm_flat.specs.declared.literal.Literal.{Literal}
-use Rattle.sm_flat.specs.Literals.{complement}
+use Rattle.sm_kinds.specs.declared.literal.Literal.{Literal}
+use Rattle.sm_kinds.specs.Literals.{complement}
 use Rattle.sm_store.specs.Stores.{Extent, Narrows}
 
 -- the literal and its complement both narrow the store and leave it nonempty

@@ -1,7 +1,7 @@
 -- How much work a tree still holds at most.
 use Rattle.std.specs.Prelude.{ℕ, ◌+◌, ◌*◌, ◌^◌, List, [], ◌∷◌, length}
 use Rattle.std.specs.List.{sum_by}
-use Rattle.sm_flat.specs.Literals.{complement}
+use Rattle.sm_kinds.specs.Literals.{complement}
 use Rattle.sm_store.specs.Stores.{Extent, narrow}
 use Rattle.sm_rules.specs.declared.node.Status.{Status}
 use Rattle.sm_rules.specs.declared.node.Status.TheVariants.{Open, Half, Split}

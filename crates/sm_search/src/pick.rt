@@ -60,11 +60,13 @@ fn first_of(store: &Store, terms: &[(u32, i64)]) -> Option<u32>
     None
 }
 
-/// The variable that a constraint is split on, where it has one with several values.
+/// The variable that a constraint is split on, where it has one with several values. Only linear constraints choose so far.
 fn variable_of(store: &Store, constraint: &Constraint) -> Option<u32>
     ensures { IfSome result (λ v. IsUnfixed store.now v) }
 {
-    let Form::Linear(row) = &constraint.form;
+    let Form::Linear(row) = &constraint.form else {
+        return None;
+    };
     match constraint.tags.pick {
         PickBy::First => first_of(store, row.terms.as_slice()),
         // Where there is no relaxed point to go by, the variable of fewest values is taken.

@@ -3,9 +3,9 @@ ghost use Rattle.std.specs.Prelude.{◌≡◌, ◌≢◌, ◌≤◌, ◌<◌, �
 ghost use Rattle.std.specs.Io.KnownBytes.{Appends};
 ghost use Rattle.sm_base.specs.Bytes.{AppendsFront};
 ghost use Rattle.sm_base.specs.Causes.{Rose};
-ghost use Rattle.sm_flat.specs.Points.{point_of};
+ghost use Rattle.sm_flat.specs.Assignments.{point_of};
 ghost use Rattle.sm_store.specs.Stores.{extent_at, least_of};
-ghost use Rattle.sm_flat.specs.Sat.{Sat};
+ghost use Rattle.sm_flat.specs.Forms.{Sat};
 ghost use Rattle.sm_flat.specs.Goals.{IsBetter, HasValues};
 ghost use Rattle.sm_flat.specs.declared.form.Constraint.{Constraint as Stated};
 ghost use Rattle.sm_step.specs.Text.{text_of};

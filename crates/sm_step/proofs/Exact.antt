@@ -12,9 +12,9 @@ use Rattle.std.proofs.lemmas.Bool.Decides.{nat_tests, Decides-eqb}
 use Rattle.std.proofs.lemmas.List.Elements.{All-head, All-tail, All-cons, All-nil}
 use Rattle.sm_base.specs.Whole.{whole_text}
 use Rattle.sm_frac.specs.declared.fraction.Frac.{Frac}
-use Rattle.sm_flat.specs.declared.literal.Literal.{Literal}
-use Rattle.sm_flat.specs.declared.literal.Test.{Test}
-use Rattle.sm_flat.specs.declared.literal.Test.TheVariants.{AtMost, AtLeast, Equal, Unequal}
+use Rattle.sm_kinds.specs.declared.literal.Literal.{Literal}
+use Rattle.sm_kinds.specs.declared.literal.Test.{Test}
+use Rattle.sm_kinds.specs.declared.literal.Test.TheVariants.{AtMost, AtLeast, Equal, Unequal}
 use Rattle.sm_step.specs.PartText.{number_text, each_after, joined, joined_or_none, list_text, prices_text, value_text, test_text, literal_text, fraction_text, spaced}
 use Rattle.sm_step.specs.Grammar.{IsLiteral, IsWhole, IsNumber, IsSome, RisesFrom, IsList, IsDenominator, AreValues}
 use Rattle.sm_step.specs.Reading.{Reads, rest_behind, each_up_to, each_in, joined_in, whole_in, natural_in, narrow_in, fits_narrow, number_in, list_in, prices_in, listed_in, begins_with_digit, is_digit, unless_digit, rest_behind_none, EndsNumber}

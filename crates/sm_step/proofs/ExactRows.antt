@@ -2,7 +2,7 @@
 use Rattle.std.proofs.Common.{◌≡◌, ℕ, ℤ, List, [], ◌∷◌, ◌++◌, Option, Some, None, refl, ◌∙◌, ap, arith, append_assoc}
 use Rattle.std.specs.Prelude.{codes, All}
 use Rattle.sm_base.specs.Whole.{whole_text}
-use Rattle.sm_flat.specs.declared.literal.Literal.{Literal}
+use Rattle.sm_kinds.specs.declared.literal.Literal.{Literal}
 use Rattle.sm_step.specs.declared.line.Outcome.{Outcome}
 use Rattle.sm_step.specs.declared.line.Outcome.TheVariants.{Close, Literals}
 use Rattle.sm_step.specs.declared.row.Col.{Col}

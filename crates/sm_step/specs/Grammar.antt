@@ -2,7 +2,7 @@
 use Rattle.std.specs.Prelude.{◌≡◌, ◌≤◌, ◌<◌, ◌+◌, ◌^◌, ◌⊎◌, ◌≤ℤ◌, ◌<ℤ◌, ℕ, ℤ, pos, unsigned_abs, List, [], ◌∷◌, length, All, Option, Some, None, FitsSigned}
 use Rattle.std.specs.Int.{◌∣◌, w64, w128}
 use Rattle.sm_frac.specs.declared.fraction.Frac.{Frac}
-use Rattle.sm_flat.specs.declared.literal.Literal.{Literal}
+use Rattle.sm_kinds.specs.declared.literal.Literal.{Literal}
 use Rattle.sm_step.specs.declared.line.Line.{Line}
 use Rattle.sm_step.specs.declared.line.Line.TheVariants as line
 use Rattle.sm_step.specs.declared.line.Outcome.{Outcome}

@@ -1,9 +1,9 @@
 -- Reading the parts that stand in several kinds of lines.
 use Rattle.std.specs.Prelude.{◌^◌, ℤ, pos, negsuc, Bool, false, List, codes, nat_lt, None, option_map, if◌then◌else◌}
 use Rattle.sm_frac.specs.declared.fraction.Frac.{Frac}
-use Rattle.sm_flat.specs.declared.literal.Literal.{Literal}
-use Rattle.sm_flat.specs.declared.literal.Test.{Test}
-use Rattle.sm_flat.specs.declared.literal.Test.TheVariants.{AtMost, AtLeast, Equal, Unequal}
+use Rattle.sm_kinds.specs.declared.literal.Literal.{Literal}
+use Rattle.sm_kinds.specs.declared.literal.Test.{Test}
+use Rattle.sm_kinds.specs.declared.literal.Test.TheVariants.{AtMost, AtLeast, Equal, Unequal}
 use Rattle.sm_step.specs.Fractions.{fraction_of}
 use Rattle.sm_step.specs.Reading.{Reads, done, ◌>>=◌, rest_behind, either, behind, whole_in, narrow_in, natural_in, each_in, joined_in}
 

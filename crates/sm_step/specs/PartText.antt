@@ -2,9 +2,9 @@
 use Rattle.std.specs.Prelude.{◌++◌, ◌==◌, ℕ, List, [], ◌∷◌, ℤ, pos, codes, unsigned_abs, if◌then◌else◌}
 use Rattle.sm_base.specs.Whole.{whole_text}
 use Rattle.sm_frac.specs.declared.fraction.Frac.{Frac}
-use Rattle.sm_flat.specs.declared.literal.Literal.{Literal}
-use Rattle.sm_flat.specs.declared.literal.Test.{Test}
-use Rattle.sm_flat.specs.declared.literal.Test.TheVariants.{AtMost, AtLeast, Equal, Unequal}
+use Rattle.sm_kinds.specs.declared.literal.Literal.{Literal}
+use Rattle.sm_kinds.specs.declared.literal.Test.{Test}
+use Rattle.sm_kinds.specs.declared.literal.Test.TheVariants.{AtMost, AtLeast, Equal, Unequal}
 
 abbrev pub number_text : ℕ → List ℕ
 number_text n = whole_text (pos n)

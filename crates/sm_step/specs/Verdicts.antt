@@ -5,7 +5,8 @@ use Rattle.sm_flat.specs.declared.goal.Goal.{Goal}
 use Rattle.sm_flat.specs.declared.goal.Sense.{Sense}
 use Rattle.sm_flat.specs.declared.goal.Sense.TheVariants.{Minimise, Maximise, Satisfy}
 use Rattle.sm_flat.specs.Models.{FlatModel}
-use Rattle.sm_flat.specs.Points.{Point, point_of}
+use Rattle.sm_kinds.specs.Points.{Point}
+use Rattle.sm_flat.specs.Assignments.{point_of}
 use Rattle.sm_flat.specs.Assignments.{Numbers}
 use Rattle.sm_flat.specs.Goals.{goal_at, worth, HasValues}
 use Rattle.sm_flat.specs.Solutions.{Solves, IsOptimum, HasNoSolution}

@@ -5,14 +5,14 @@ use Rattle.std.specs.Ordering.{int_eq}
 use Rattle.std.proofs.lemmas.Bool.{cases_eq}
 use Rattle.std.proofs.lemmas.Int.{ints}
 use Rattle.std.proofs.lemmas.List.{length-set}
-use Rattle.sm_flat.specs.declared.literal.Literal.{Literal}
-use Rattle.sm_flat.specs.declared.literal.Test.{Test}
-use Rattle.sm_flat.specs.declared.literal.Test.TheVariants.{AtMost, AtLeast, Equal, Unequal}
-use Rattle.sm_flat.specs.declared.var.VarKind.{VarKind}
-use Rattle.sm_flat.specs.declared.var.VarKind.TheVariants.{Set}
-use Rattle.sm_flat.specs.Literals.{passes, passes_test, opposite, beyond, complement}
-use Rattle.sm_flat.specs.Models.{IsOneOf, LiesIn}
-use Rattle.sm_flat.specs.Points.{Point}
+use Rattle.sm_kinds.specs.declared.literal.Literal.{Literal}
+use Rattle.sm_kinds.specs.declared.literal.Test.{Test}
+use Rattle.sm_kinds.specs.declared.literal.Test.TheVariants.{AtMost, AtLeast, Equal, Unequal}
+use Rattle.sm_kinds.specs.declared.var.VarKind.{VarKind}
+use Rattle.sm_kinds.specs.declared.var.VarKind.TheVariants.{Set}
+use Rattle.sm_kinds.specs.Literals.{passes, passes_test, opposite, beyond, complement}
+use Rattle.sm_kinds.specs.Vars.{IsOneOf, LiesIn}
+use Rattle.sm_kinds.specs.Points.{Point}
 use Rattle.sm_store.specs.Stores.{Extent, no_extent, extent_at, Lies, In, kept, narrowed, narrow}
 
 true_or_false : (b : Bool) → (b ≡ true) ⊎ (not b ≡ true)

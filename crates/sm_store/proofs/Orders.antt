@@ -6,11 +6,11 @@ use Rattle.std.proofs.lemmas.Bool.{cases_lt, cases_eq}
 use Rattle.std.proofs.lemmas.List.{get_or_default}
 use Rattle.std.proofs.lemmas.List.Elements.{All-filter}
 use Rattle.std.proofs.lemmas.List.Kept.{AllPairs-filter}
-use Rattle.sm_flat.specs.declared.literal.Literal.{Literal}
-use Rattle.sm_flat.specs.declared.var.VarKind.{VarKind}
-use Rattle.sm_flat.specs.declared.var.VarKind.TheVariants.{Set}
-use Rattle.sm_flat.specs.Literals.{passes}
-use Rattle.sm_flat.specs.Limits.{IsRising, IsSetDomain, IsDomain}
+use Rattle.sm_kinds.specs.declared.literal.Literal.{Literal}
+use Rattle.sm_kinds.specs.declared.var.VarKind.{VarKind}
+use Rattle.sm_kinds.specs.declared.var.VarKind.TheVariants.{Set}
+use Rattle.sm_kinds.specs.Literals.{passes}
+use Rattle.sm_kinds.specs.Vars.{IsRising, IsSetDomain, IsDomain}
 use Rattle.sm_store.specs.Stores.{IsOrdered, kept}
 
 pub ordered_kept : (kind : VarKind) (l : Literal) (values : List ℤ) → IsOrdered values → IsOrdered (kept kind l values)

@@ -6,14 +6,16 @@ use Rattle.std.proofs.lemmas.Int.{ints}
 use Rattle.std.proofs.lemmas.List.{length-set, length-map}
 use Rattle.std.proofs.Math.ListN.{get_or-map}
 use Rattle.std.proofs.lemmas.List.Elements.{All-filter}
-use Rattle.sm_flat.specs.declared.literal.Literal.{Literal}
-use Rattle.sm_flat.specs.declared.var.Var.{Var}
-use Rattle.sm_flat.specs.declared.var.VarKind.{VarKind}
-use Rattle.sm_flat.specs.declared.var.VarKind.TheVariants.{Set}
-use Rattle.sm_flat.specs.Literals.{passes}
-use Rattle.sm_flat.specs.Limits.{IsFlat, IsDomain}
-use Rattle.sm_flat.specs.Models.{FlatModel, IsOneOf, var_at, no_var}
-use Rattle.sm_flat.specs.Points.{Point}
+use Rattle.sm_kinds.specs.declared.literal.Literal.{Literal}
+use Rattle.sm_kinds.specs.declared.var.Var.{Var}
+use Rattle.sm_kinds.specs.declared.var.VarKind.{VarKind}
+use Rattle.sm_kinds.specs.declared.var.VarKind.TheVariants.{Set}
+use Rattle.sm_kinds.specs.Literals.{passes}
+use Rattle.sm_flat.specs.Limits.{IsFlat}
+use Rattle.sm_kinds.specs.Vars.{IsDomain}
+use Rattle.sm_flat.specs.Models.{FlatModel}
+use Rattle.sm_kinds.specs.Vars.{IsOneOf, var_at, no_var}
+use Rattle.sm_kinds.specs.Points.{Point}
 use Rattle.sm_flat.specs.Solutions.{Fits}
 use Rattle.sm_store.specs.Stores.{Extent, no_extent, extent_at, extent_of, declared, In, kept, narrowed, narrow, IsPartOf, IsStoreOf}
 use Rattle.sm_store.proofs.Orders.{ordered_kept, domain_ordered}

@@ -1,12 +1,13 @@
 -- Stores: for each variable the values that it may still have.
 use Rattle.std.specs.Prelude.{◌≡◌, ℕ, ◌<◌, ◌≤◌, ◌-◌, ◌^◌, List, [], ◌∷◌, length, map, filter, ℤ, pos, ◌<ℤ◌, All, AllPairs, unsigned_abs, Bool, true, false, ◌==◌, if◌then◌else◌, Option, Some, None, slice_index_or, slice_set}
-use Rattle.sm_flat.specs.declared.var.Var.{Var}
-use Rattle.sm_flat.specs.declared.var.VarKind.{VarKind}
-use Rattle.sm_flat.specs.declared.var.VarKind.TheVariants.{Set}
-use Rattle.sm_flat.specs.declared.literal.Literal.{Literal}
-use Rattle.sm_flat.specs.Models.{FlatModel, IsOneOf, LiesIn, var_at}
-use Rattle.sm_flat.specs.Points.{Point}
-use Rattle.sm_flat.specs.Literals.{passes}
+use Rattle.sm_kinds.specs.declared.var.Var.{Var}
+use Rattle.sm_kinds.specs.declared.var.VarKind.{VarKind}
+use Rattle.sm_kinds.specs.declared.var.VarKind.TheVariants.{Set}
+use Rattle.sm_kinds.specs.declared.literal.Literal.{Literal}
+use Rattle.sm_flat.specs.Models.{FlatModel}
+use Rattle.sm_kinds.specs.Vars.{IsOneOf, LiesIn, var_at}
+use Rattle.sm_kinds.specs.Points.{Point}
+use Rattle.sm_kinds.specs.Literals.{passes}
 
 -- the values that one variable may still have, as its kind reads these numbers
 pub record Extent : Type 0 where
@@ -96,6 +97,14 @@ one_value (v ∷ w ∷ vs) = None
 -- the one value that an extent has
 abbrev pub fixed_value : VarKind → List ℤ → Option ℤ
 fixed_value Set values = one_value values
+
+-- the one value of a variable
+abbrev pub fixed_at : List Extent → ℕ → Option ℤ
+fixed_at store i = fixed_value (extent_at store i).kind (extent_at store i).values
+
+-- the least value of each variable, which is its value where it has one alone
+abbrev pub fixed_point : List Extent → Point
+fixed_point store = record { denominator = pos 1; numerator = λ i. least_of (extent_at store i) }
 
 -- ---- the stores of a model
 

@@ -1,7 +1,7 @@
 //! The values that one variable may still have.
 ghost use Rattle.std.specs.Prelude.{◌≡◌, ◌<◌, ◌≤◌, ◌^◌, ◌↔◌, filter, length, unsigned_abs, IsSome, IfOk, IfSome};
-ghost use Rattle.sm_flat.specs.Literals.{passes};
-ghost use Rattle.sm_flat.specs.Limits.{IsDomain};
+ghost use Rattle.sm_kinds.specs.Literals.{passes};
+ghost use Rattle.sm_kinds.specs.Vars.{IsDomain};
 ghost use Rattle.sm_store.specs.Stores.{IsOrdered, kept, least_of, greatest_of, fixed_value};
 
 use sm_flat::{Literal, Test, Var, VarKind};
@@ -107,6 +107,17 @@ impl Domain {
     {
         let (first, last) = (self.values.first()?, self.values.last()?);
         Some((*first, *last))
+    }
+
+    /// The least value, and 0 where there is none.
+    pub fn least(&self) -> i64
+        ensures value { result ≡ least_of self.now }
+        ensures small { unsigned_abs result ≤ 2 ^ 31 }
+    {
+        match self.values.first() {
+            Some(least) => *least,
+            None => 0,
+        }
     }
 
     /// The value, where there is just one.

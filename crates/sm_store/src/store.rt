@@ -1,11 +1,11 @@
 //! The values that all variables may still have.
-ghost use Rattle.std.specs.Prelude.{◌≡◌, ◌<◌, ◌≤◌, ◌^◌, ◌↔◌, [], All, Any, Contains, length, unsigned_abs, IsTrue, IsSome, IfOk, IfSome};
-ghost use Rattle.sm_flat.specs.Limits.{IsDomain};
-ghost use Rattle.sm_flat.specs.declared.var.Var.{Var as Variable};
-ghost use Rattle.sm_store.specs.Stores.{declared, narrow, extent_at, least_of, greatest_of, fixed_value, truth_of, Narrows, Changes};
+ghost use Rattle.std.specs.Prelude.{◌≡◌, ◌<◌, ◌≤◌, ◌≤ℤ◌, ◌^◌, ◌↔◌, [], pos, is_some, All, Any, Contains, length, unsigned_abs, IsTrue, IsSome, IfOk, IfSome};
+ghost use Rattle.sm_kinds.specs.Vars.{IsDomain};
+ghost use Rattle.sm_kinds.specs.declared.var.Var.{Var as Variable};
+ghost use Rattle.sm_store.specs.Stores.{declared, narrow, extent_at, least_of, greatest_of, fixed_value, fixed_at, fixed_point, truth_of, Narrows, Changes};
 
 use crate::domain::Domain;
-use sm_flat::{Flat, Literal, Var};
+use sm_flat::{Flat, Literal, Values, Var, VarTest};
 use std::alloc::{AllocError, Global};
 use std::marker::Model;
 
@@ -174,5 +174,46 @@ impl Store {
             return Some(false);
         }
         None
+    }
+}
+
+impl Values for Store {
+    ghost use Rattle.sm_store.specs.Stores.{fixed_point};
+
+    ghost point = { fixed_point };
+
+    fn denominator(&self) -> i64
+        ensures value { result ≡ (fixed_point self.now).denominator }
+        ensures range { (pos 1 ≤ℤ result) × (result ≤ℤ pos (2 ^ 52)) }
+    {
+        1
+    }
+
+    /// The least value of a variable, which is its value where it has one alone.
+    fn numerator(&self, var: u32) -> i128
+        ensures value { result ≡ (fixed_point self.now).numerator var }
+        ensures bound { unsigned_abs result ≤ 2 ^ 83 }
+    {
+        match self.domains.get(var as usize) {
+            Some(domain) => i128::from(domain.least()),
+            None => 0,
+        }
+    }
+}
+
+impl VarTest for Store {
+    ghost use Rattle.std.specs.Prelude.{is_some};
+    ghost use Rattle.sm_store.specs.Stores.{fixed_at};
+
+    ghost passing = { λ s i. is_some (fixed_at s i) };
+
+    /// Whether a variable has one value alone.
+    fn test(&self, var: u32) -> bool
+        ensures { result ≡ is_some (fixed_at self.now var) }
+    {
+        match self.domains.get(var as usize) {
+            Some(domain) => domain.fixed().is_some(),
+            None => false,
+        }
     }
 }

@@ -1,5 +1,6 @@
 //! What comes of model texts.
 use crate::print_model::print_tree;
+use crate::print_token::Output;
 use anyhow::{Result, bail};
 use sm_syntax::{ParseRefusal, Tree, parse};
 use std::alloc::{AllocError, Global};
@@ -7,9 +8,9 @@ use test_tables::Answers;
 
 /// The tokens of a tree, each with a space before it.
 fn printed(alloc: Global, tree: &Tree) -> Result<Vec<u8>, AllocError> {
-    let mut tokens = Vec::new(alloc);
-    print_tree(&mut tokens, tree)?;
-    Ok(tokens)
+    let mut tokens = Output::new(alloc);
+    print_tree(&mut tokens, tree);
+    tokens.finish()
 }
 
 /// Whether printed tokens are read to a tree that is printed as the same tokens.

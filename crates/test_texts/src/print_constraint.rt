@@ -4,74 +4,69 @@ use crate::print_formula::print_formula;
 use crate::print_list::{
     print_choice, print_ctask, print_dtask, print_list, print_load, print_table,
 };
-use crate::print_token::{Printed, put};
+use crate::print_token::{Output, put};
 use sm_syntax::{Choice, Choosing, Cmp, Cons, Ctask, Dtask, Expr, List, Lit, Load};
 
-fn print_row(out: &mut Vec<u8>, left: &Expr, cmp: &Cmp, right: &Expr) -> Printed {
-    print_expr(out, left)?;
+fn print_row(out: &mut Output, left: &Expr, cmp: &Cmp, right: &Expr) {
+    print_expr(out, left);
     match cmp {
-        Cmp::AtMost { .. } => put(out, b"<=")?,
-        Cmp::AtLeast { .. } => put(out, b">=")?,
-        Cmp::Equal { .. } => put(out, b"=")?,
+        Cmp::AtMost { .. } => put(out, b"<="),
+        Cmp::AtLeast { .. } => put(out, b">="),
+        Cmp::Equal { .. } => put(out, b"="),
     }
-    print_expr(out, right)
+    print_expr(out, right);
 }
 
-fn print_lits(out: &mut Vec<u8>, first: &Lit, more: &[Lit]) -> Printed {
-    print_lit(out, first)?;
+fn print_lits(out: &mut Output, first: &Lit, more: &[Lit]) {
+    print_lit(out, first);
     for lit in more {
-        put(out, b",")?;
-        print_lit(out, lit)?;
+        put(out, b",");
+        print_lit(out, lit);
     }
-    Ok(())
 }
 
-fn print_choices(out: &mut Vec<u8>, total: &Expr, choices: &[Choice]) -> Printed {
-    print_expr(out, total)?;
+fn print_choices(out: &mut Output, total: &Expr, choices: &[Choice]) {
+    print_expr(out, total);
     for choice in choices {
-        put(out, b";")?;
-        print_choice(out, choice)?;
+        put(out, b";");
+        print_choice(out, choice);
     }
-    Ok(())
 }
 
-fn print_cumulative(out: &mut Vec<u8>, capacity: &Expr, tasks: &[Ctask]) -> Printed {
-    print_expr(out, capacity)?;
+fn print_cumulative(out: &mut Output, capacity: &Expr, tasks: &[Ctask]) {
+    print_expr(out, capacity);
     for task in tasks {
-        put(out, b";")?;
-        print_ctask(out, task)?;
+        put(out, b";");
+        print_ctask(out, task);
     }
-    Ok(())
 }
 
-fn print_disjunctive(out: &mut Vec<u8>, first: &Dtask, more: &[Dtask]) -> Printed {
-    print_dtask(out, first)?;
+fn print_disjunctive(out: &mut Output, first: &Dtask, more: &[Dtask]) {
+    print_dtask(out, first);
     for task in more {
-        put(out, b";")?;
-        print_dtask(out, task)?;
+        put(out, b";");
+        print_dtask(out, task);
     }
-    Ok(())
 }
 
-fn print_packing(out: &mut Vec<u8>, cost: &Expr, tables: [&List; 2], loads: &[Load]) -> Printed {
-    print_expr(out, cost)?;
+fn print_packing(out: &mut Output, cost: &Expr, tables: [&List; 2], loads: &[Load]) {
+    print_expr(out, cost);
     for table in tables {
-        put(out, b";")?;
-        print_table(out, table)?;
+        put(out, b";");
+        print_table(out, table);
     }
     for load in loads {
-        put(out, b";")?;
-        print_load(out, load)?;
+        put(out, b";");
+        print_load(out, load);
     }
-    Ok(())
 }
 
-fn print_element(out: &mut Vec<u8>, index: &Expr, entries: &List, value: &Expr) -> Printed {
-    print_expr(out, index)?;
-    put(out, b",")?;
-    print_table(out, entries)?;
-    put(out, b",")?;
-    print_expr(out, value)
+fn print_element(out: &mut Output, index: &Expr, entries: &List, value: &Expr) {
+    print_expr(out, index);
+    put(out, b",");
+    print_table(out, entries);
+    put(out, b",");
+    print_expr(out, value);
 }
 
 fn constraint_word(cons: &Cons) -> &'static [u8] {
@@ -94,7 +89,7 @@ fn constraint_word(cons: &Cons) -> &'static [u8] {
     }
 }
 
-fn print_inner(out: &mut Vec<u8>, cons: &Cons) -> Printed {
+fn print_inner(out: &mut Output, cons: &Cons) {
     match cons {
         Cons::Alldiff { list, .. } | Cons::Circuit { list, .. } => print_list(out, list),
         Cons::Element {
@@ -117,11 +112,11 @@ fn print_inner(out: &mut Vec<u8>, cons: &Cons) -> Printed {
             loads,
             ..
         } => print_packing(out, cost, [capacities, openings], loads.as_slice()),
-        _ => Ok(()),
+        _ => {}
     }
 }
 
-pub fn print_cons(out: &mut Vec<u8>, cons: &Cons) -> Printed {
+pub fn print_cons(out: &mut Output, cons: &Cons) {
     match cons {
         Cons::Linear {
             left,
@@ -130,8 +125,8 @@ pub fn print_cons(out: &mut Vec<u8>, cons: &Cons) -> Printed {
             ..
         } => print_row(out, left, cmp, right),
         Cons::Logic { formula, .. } => {
-            put(out, b"logic")?;
-            print_formula(out, formula)
+            put(out, b"logic");
+            print_formula(out, formula);
         }
         Cons::When {
             first,
@@ -141,16 +136,16 @@ pub fn print_cons(out: &mut Vec<u8>, cons: &Cons) -> Printed {
             right,
             ..
         } => {
-            put(out, b"when")?;
-            print_lits(out, first, more.as_slice())?;
-            put(out, b"then")?;
-            print_row(out, left, cmp, right)
+            put(out, b"when");
+            print_lits(out, first, more.as_slice());
+            put(out, b"then");
+            print_row(out, left, cmp, right);
         }
         _ => {
-            put(out, constraint_word(cons))?;
-            put(out, b"(")?;
-            print_inner(out, cons)?;
-            put(out, b")")
+            put(out, constraint_word(cons));
+            put(out, b"(");
+            print_inner(out, cons);
+            put(out, b")");
         }
     }
 }

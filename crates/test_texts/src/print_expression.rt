@@ -1,5 +1,5 @@
 //! Printing expressions, binders and literals.
-use crate::print_token::{Printed, print_name, print_number, put};
+use crate::print_token::{Output, print_name, print_number, put};
 use sm_syntax::{Bind, Binders, Expr, Factor, Lit, LitRelation, Relation, Sign, Term, Test};
 
 fn relation_word(relation: Relation) -> &'static [u8] {
@@ -13,113 +13,108 @@ fn relation_word(relation: Relation) -> &'static [u8] {
     }
 }
 
-fn print_bind(out: &mut Vec<u8>, bind: &Bind) -> Printed {
-    print_name(out, &bind.name)?;
-    put(out, b"in")?;
-    print_name(out, &bind.set)
+fn print_bind(out: &mut Output, bind: &Bind) {
+    print_name(out, &bind.name);
+    put(out, b"in");
+    print_name(out, &bind.set);
 }
 
 #[cycle(printed)]
-pub fn print_expr(out: &mut Vec<u8>, expr: &Expr) -> Printed {
+pub fn print_expr(out: &mut Output, expr: &Expr) {
     if expr.is_negated {
-        put(out, b"-")?;
+        put(out, b"-");
     }
-    print_term(out, &expr.first)?;
+    print_term(out, &expr.first);
     for addend in expr.more.as_slice() {
         match addend.sign {
-            Sign::Plus => put(out, b"+")?,
-            Sign::Minus => put(out, b"-")?,
+            Sign::Plus => put(out, b"+"),
+            Sign::Minus => put(out, b"-"),
         }
-        print_term(out, &addend.term)?;
+        print_term(out, &addend.term);
     }
-    Ok(())
 }
 
 #[cycle(printed)]
-fn print_term(out: &mut Vec<u8>, term: &Term) -> Printed {
-    print_factor(out, &term.first)?;
+fn print_term(out: &mut Output, term: &Term) {
+    print_factor(out, &term.first);
     for factor in term.more.as_slice() {
-        put(out, b"*")?;
-        print_factor(out, factor)?;
+        put(out, b"*");
+        print_factor(out, factor);
     }
-    Ok(())
 }
 
 #[cycle(printed)]
-fn print_factor(out: &mut Vec<u8>, factor: &Factor) -> Printed {
+fn print_factor(out: &mut Output, factor: &Factor) {
     match factor {
         Factor::Number { number, .. } => print_number(out, number),
         Factor::Name { name, indices, .. } => {
-            print_name(out, name)?;
-            print_indices(out, indices.as_slice())
+            print_name(out, name);
+            print_indices(out, indices.as_slice());
         }
         Factor::Group { inner, .. } => {
-            put(out, b"(")?;
-            print_expr(out, inner.get())?;
-            put(out, b")")
+            put(out, b"(");
+            print_expr(out, inner.get());
+            put(out, b")");
         }
         Factor::Sum {
             summand,
             binders,
             ..
         } => {
-            put(out, b"sum")?;
-            put(out, b"(")?;
-            print_expr(out, summand.get())?;
-            put(out, b"for")?;
-            print_binders(out, binders.get())?;
-            put(out, b")")
+            put(out, b"sum");
+            put(out, b"(");
+            print_expr(out, summand.get());
+            put(out, b"for");
+            print_binders(out, binders.get());
+            put(out, b")");
         }
     }
 }
 
 #[cycle(printed)]
-fn print_indices(out: &mut Vec<u8>, indices: &[Expr]) -> Printed {
+fn print_indices(out: &mut Output, indices: &[Expr]) {
     let mut sign: &[u8] = b"[";
     for index in indices {
-        put(out, sign)?;
-        print_expr(out, index)?;
+        put(out, sign);
+        print_expr(out, index);
         sign = b",";
     }
-    if indices.is_empty() {
-        Ok(())
-    } else {
-        put(out, b"]")
+    if !indices.is_empty() {
+        put(out, b"]");
     }
 }
 
 #[cycle(printed)]
-pub fn print_binders(out: &mut Vec<u8>, binders: &Binders) -> Printed {
-    print_bind(out, &binders.first)?;
+pub fn print_binders(out: &mut Output, binders: &Binders) {
+    print_bind(out, &binders.first);
     for bind in binders.more.as_slice() {
-        put(out, b",")?;
-        print_bind(out, bind)?;
+        put(out, b",");
+        print_bind(out, bind);
     }
     let mut word: &[u8] = b"if";
     for test in binders.tests.as_slice() {
-        put(out, word)?;
-        print_test(out, test)?;
+        put(out, word);
+        print_test(out, test);
         word = b"and";
     }
-    Ok(())
 }
 
 #[cycle(printed)]
-fn print_test(out: &mut Vec<u8>, test: &Test) -> Printed {
-    print_expr(out, &test.left)?;
-    put(out, relation_word(test.relation))?;
-    print_expr(out, &test.right)
+fn print_test(out: &mut Output, test: &Test) {
+    print_expr(out, &test.left);
+    put(out, relation_word(test.relation));
+    print_expr(out, &test.right);
 }
 
-pub fn print_lit(out: &mut Vec<u8>, lit: &Lit) -> Printed {
-    put(out, b"[")?;
-    print_expr(out, &lit.left)?;
+pub fn print_lit(out: &mut Output, lit: &Lit) {
+    put(out, b"[");
+    print_expr(out, &lit.left);
     match lit.relation {
-        LitRelation::AtMost => put(out, b"<=")?,
-        LitRelation::AtLeast => put(out, b">=")?,
-        LitRelation::Equal => put(out, b"=")?,
-        LitRelation::Unequal => put(out, b"!=")?,
+        LitRelation::AtMost => put(out, b"<="),
+        LitRelation::AtLeast => put(out, b">="),
+        LitRelation::Equal => put(out, b"="),
+        LitRelation::Unequal => put(out, b"!="),
     }
-    print_expr(out, &lit.right)?;
-    put(out, b"]")
+    print_expr(out, &lit.right);
+    put(out, b"]");
 }

@@ -1,60 +1,58 @@
 //! Printing formulas.
 use crate::print_expression::{print_binders, print_lit};
-use crate::print_token::{Printed, put};
+use crate::print_token::{Output, put};
 use sm_syntax::{Atom, Conclusion, Conj, Disj, Formula, Quantifier, Unit};
 
 #[cycle(stated)]
-pub fn print_formula(out: &mut Vec<u8>, formula: &Formula) -> Printed {
-    print_disj(out, &formula.left)?;
+pub fn print_formula(out: &mut Output, formula: &Formula) {
+    print_disj(out, &formula.left);
     match &formula.conclusion {
-        Conclusion::None => Ok(()),
+        Conclusion::None => {}
         Conclusion::Implies(disj) => {
-            put(out, b"implies")?;
-            print_disj(out, disj)
+            put(out, b"implies");
+            print_disj(out, disj);
         }
         Conclusion::Iff(disj) => {
-            put(out, b"iff")?;
-            print_disj(out, disj)
+            put(out, b"iff");
+            print_disj(out, disj);
         }
     }
 }
 
 #[cycle(stated)]
-fn print_disj(out: &mut Vec<u8>, disj: &Disj) -> Printed {
-    print_conj(out, &disj.first)?;
+fn print_disj(out: &mut Output, disj: &Disj) {
+    print_conj(out, &disj.first);
     for conj in disj.more.as_slice() {
-        put(out, b"or")?;
-        print_conj(out, conj)?;
+        put(out, b"or");
+        print_conj(out, conj);
     }
-    Ok(())
 }
 
 #[cycle(stated)]
-fn print_conj(out: &mut Vec<u8>, conj: &Conj) -> Printed {
-    print_unit(out, &conj.first)?;
+fn print_conj(out: &mut Output, conj: &Conj) {
+    print_unit(out, &conj.first);
     for unit in conj.more.as_slice() {
-        put(out, b"and")?;
-        print_unit(out, unit)?;
+        put(out, b"and");
+        print_unit(out, unit);
     }
-    Ok(())
 }
 
 #[cycle(stated)]
-fn print_unit(out: &mut Vec<u8>, unit: &Unit) -> Printed {
+fn print_unit(out: &mut Output, unit: &Unit) {
     for _negation in unit.negations.as_slice() {
-        put(out, b"not")?;
+        put(out, b"not");
     }
-    print_atom(out, &unit.inner)
+    print_atom(out, &unit.inner);
 }
 
 #[cycle(stated)]
-fn print_atom(out: &mut Vec<u8>, atom: &Atom) -> Printed {
+fn print_atom(out: &mut Output, atom: &Atom) {
     match atom {
         Atom::Lit { lit, .. } => print_lit(out, lit),
         Atom::Group { inner, .. } => {
-            put(out, b"(")?;
-            print_formula(out, inner.get())?;
-            put(out, b")")
+            put(out, b"(");
+            print_formula(out, inner.get());
+            put(out, b")");
         }
         Atom::Quantified {
             quantifier,
@@ -63,14 +61,14 @@ fn print_atom(out: &mut Vec<u8>, atom: &Atom) -> Printed {
             ..
         } => {
             match quantifier {
-                Quantifier::All => put(out, b"all")?,
-                Quantifier::Any => put(out, b"any")?,
+                Quantifier::All => put(out, b"all"),
+                Quantifier::Any => put(out, b"any"),
             }
-            put(out, b"(")?;
-            print_formula(out, inner.get())?;
-            put(out, b"for")?;
-            print_binders(out, binders)?;
-            put(out, b")")
+            put(out, b"(");
+            print_formula(out, inner.get());
+            put(out, b"for");
+            print_binders(out, binders);
+            put(out, b")");
         }
     }
 }

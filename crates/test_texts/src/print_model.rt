@@ -2,7 +2,7 @@
 use crate::print_constraint::print_cons;
 use crate::print_expression::{print_binders, print_expr};
 use crate::print_list::print_exprs;
-use crate::print_token::{Printed, print_name, print_number, put};
+use crate::print_token::{Output, print_name, print_number, put};
 use sm_syntax::{
     Aim, Binders, Cons, Expr, Goal, Item, Kind, Level, Name, Picking, Relaxing, Splitting, Tag,
     Tree, Values,
@@ -34,34 +34,34 @@ fn tag_words(tag: &Tag) -> [&'static [u8]; 2] {
     }
 }
 
-fn print_tag(out: &mut Vec<u8>, tag: &Tag) -> Printed {
+fn print_tag(out: &mut Output, tag: &Tag) {
     for word in tag_words(tag) {
         if !word.is_empty() {
-            put(out, word)?;
+            put(out, word);
         }
     }
     match tag {
         Tag::Branch { rank, .. } => print_number(out, rank),
         Tag::Sub { number, .. } => print_expr(out, number),
-        _ => Ok(()),
+        _ => {}
     }
 }
 
-fn print_range(out: &mut Vec<u8>, word: &[u8], least: &Expr, greatest: &Expr) -> Printed {
-    put(out, word)?;
-    print_expr(out, least)?;
-    put(out, b"..")?;
-    print_expr(out, greatest)
+fn print_range(out: &mut Output, word: &[u8], least: &Expr, greatest: &Expr) {
+    put(out, word);
+    print_expr(out, least);
+    put(out, b"..");
+    print_expr(out, greatest);
 }
 
-fn print_kind(out: &mut Vec<u8>, kind: &Kind) -> Printed {
+fn print_kind(out: &mut Output, kind: &Kind) {
     match kind {
         Kind::Set { values, .. } => match values {
             Values::Range { least, greatest } => print_range(out, b"set", least, greatest),
             Values::List { first, more } => {
-                put(out, b"set")?;
-                put(out, b"{")?;
-                print_exprs(out, first, more.as_slice())?;
+                put(out, b"set");
+                put(out, b"{");
+                print_exprs(out, first, more.as_slice());
                 put(out, b"}")
             }
         },
@@ -78,35 +78,32 @@ fn print_kind(out: &mut Vec<u8>, kind: &Kind) -> Printed {
     }
 }
 
-fn print_family(out: &mut Vec<u8>, sets: &[Name]) -> Printed {
+fn print_family(out: &mut Output, sets: &[Name]) {
     let mut sign: &[u8] = b"[";
     for set in sets {
-        put(out, sign)?;
-        print_name(out, set)?;
+        put(out, sign);
+        print_name(out, set);
         sign = b",";
     }
-    if sets.is_empty() {
-        Ok(())
-    } else {
-        put(out, b"]")
+    if !sets.is_empty() {
+        put(out, b"]");
     }
 }
 
-fn print_post(out: &mut Vec<u8>, forall: &Option<Binders>, cons: &Cons, tags: &[Tag]) -> Printed {
-    put(out, b"post")?;
+fn print_post(out: &mut Output, forall: &Option<Binders>, cons: &Cons, tags: &[Tag]) {
+    put(out, b"post");
     if let Some(binders) = forall {
-        put(out, b"forall")?;
-        print_binders(out, binders)?;
-        put(out, b":")?;
+        put(out, b"forall");
+        print_binders(out, binders);
+        put(out, b":");
     }
-    print_cons(out, cons)?;
+    print_cons(out, cons);
     for tag in tags {
-        print_tag(out, tag)?;
+        print_tag(out, tag);
     }
-    Ok(())
 }
 
-fn print_item(out: &mut Vec<u8>, item: &Item) -> Printed {
+fn print_item(out: &mut Output, item: &Item) {
     match item {
         Item::Index {
             name,
@@ -114,9 +111,9 @@ fn print_item(out: &mut Vec<u8>, item: &Item) -> Printed {
             greatest,
             ..
         } => {
-            put(out, b"index")?;
-            print_name(out, name)?;
-            print_range(out, b"=", least, greatest)?;
+            put(out, b"index");
+            print_name(out, name);
+            print_range(out, b"=", least, greatest);
         }
         Item::Var {
             name,
@@ -124,54 +121,53 @@ fn print_item(out: &mut Vec<u8>, item: &Item) -> Printed {
             kind,
             ..
         } => {
-            put(out, b"var")?;
-            print_name(out, name)?;
-            print_family(out, sets.as_slice())?;
-            put(out, b":")?;
-            print_kind(out, kind)?;
+            put(out, b"var");
+            print_name(out, name);
+            print_family(out, sets.as_slice());
+            put(out, b":");
+            print_kind(out, kind);
         }
         Item::Post {
             forall,
             cons,
             tags,
             ..
-        } => print_post(out, forall, cons, tags.as_slice())?,
+        } => print_post(out, forall, cons, tags.as_slice()),
     }
     put(out, b";")
 }
 
-fn print_aim(out: &mut Vec<u8>, aim: &Aim) -> Printed {
+fn print_aim(out: &mut Output, aim: &Aim) {
     match aim {
         Aim::Minimise { expr, .. } => {
-            put(out, b"minimise")?;
-            print_expr(out, expr)
+            put(out, b"minimise");
+            print_expr(out, expr);
         }
         Aim::Maximise { expr, .. } => {
-            put(out, b"maximise")?;
-            print_expr(out, expr)
+            put(out, b"maximise");
+            print_expr(out, expr);
         }
     }
 }
 
-fn print_goal(out: &mut Vec<u8>, goal: &Goal) -> Printed {
+fn print_goal(out: &mut Output, goal: &Goal) {
     match goal {
         Goal::Satisfy { .. } => put(out, b"satisfy"),
         Goal::Aims { first, more, .. } => {
-            print_aim(out, first)?;
+            print_aim(out, first);
             for aim in more.as_slice() {
-                put(out, b"then")?;
-                print_aim(out, aim)?;
+                put(out, b"then");
+                print_aim(out, aim);
             }
-            Ok(())
         }
     }
 }
 
 /// The tokens of a tree, each behind a space.
-pub fn print_tree(out: &mut Vec<u8>, tree: &Tree) -> Printed {
+pub fn print_tree(out: &mut Output, tree: &Tree) {
     for item in tree.items.as_slice() {
-        print_item(out, item)?;
+        print_item(out, item);
     }
-    print_goal(out, &tree.goal)?;
+    print_goal(out, &tree.goal);
     put(out, b";")
 }

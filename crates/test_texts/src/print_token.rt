@@ -1,19 +1,45 @@
 //! Printing tokens, each behind a space.
 use sm_syntax::{Name, Number};
-use std::alloc::AllocError;
+use std::alloc::{AllocError, Global};
 
-/// Whether memory lasted.
-pub type Printed = Result<(), AllocError>;
-
-/// Adds a token.
-pub fn put(out: &mut Vec<u8>, token: &[u8]) -> Printed {
-    out.push(b' ')?;
-    out.extend_from_slice(token)?;
-    Ok(())
+/// The tokens so far. Where memory ran out, nothing more is added; so a printer is straight-line code, and the want of memory
+/// is told once, at the end.
+#[derive(Drop)]
+pub struct Output {
+    bytes: Vec<u8>,
+    fault: Result<(), AllocError>,
 }
 
-pub fn print_name(out: &mut Vec<u8>, name: &Name) -> Printed {
-    put(out, name.text.as_slice())
+impl Output {
+    /// No token yet.
+    pub fn new(alloc: Global) -> Output {
+        Output {
+            bytes: Vec::new(alloc),
+            fault: Ok(()),
+        }
+    }
+
+    fn add(&mut self, bytes: &[u8]) {
+        if self.fault.is_ok() {
+            self.fault = self.bytes.extend_from_slice(bytes);
+        }
+    }
+
+    /// The bytes of all tokens.
+    pub fn finish(self) -> Result<Vec<u8>, AllocError> {
+        self.fault?;
+        Ok(self.bytes)
+    }
+}
+
+/// Adds a token.
+pub fn put(out: &mut Output, token: &[u8]) {
+    out.add(b" ");
+    out.add(token);
+}
+
+pub fn print_name(out: &mut Output, name: &Name) {
+    put(out, name.text.as_slice());
 }
 
 /// What each digit of a number counts.
@@ -38,14 +64,13 @@ const SCALES: [u64; 18] = [
     1,
 ];
 
-pub fn print_number(out: &mut Vec<u8>, number: &Number) -> Printed {
-    out.push(b' ')?;
+pub fn print_number(out: &mut Output, number: &Number) {
+    out.add(b" ");
     for scale in SCALES {
         let ahead = number.value.checked_div(scale).unwrap_or(0);
         if ahead > 0 || scale == 1 {
             let digit = u8::try_from(ahead % 10).unwrap_or(0);
-            out.push(b'0' + digit % 10)?;
+            out.add(&[b'0' + digit % 10]);
         }
     }
-    Ok(())
 }

@@ -1,6 +1,6 @@
 use denote.Param.Weighed.{at_most, most}
 use Rattle.std.proofs.Common.{rules, ◌≡◌, ◌∙◌, ap, ap₂, sym, refl, subst, arith, nat_lt, Vec, Global, Result, IfOk, if◌then◌else◌, ◌≤◌, ◌<◌, ◌++◌, ◌∷◌, [], ℕ, List, length, get_or}
-use Rattle.sm_flat.specs.declared.clause.Clause.{Clause}
+use Rattle.sm_kinds.specs.declared.logic.Clause.{Clause}
 use Rattle.sm_clausify.specs.declared.formula.Formula.{Formula}
 use Rattle.sm_clausify.specs.Propositions.{Proposition, meaning, meanings, implication, equivalence, HasSmallBound}
 use Rattle.sm_clausify.specs.Clauses.{clauses_of, joined, join, empty_clause}

@@ -1,5 +1,5 @@
 use Rattle.std.proofs.Common.{◌≡◌, ◌∙◌, ap, sym, arith, refl, List, [], ◌∷◌, length}
-use Rattle.sm_flat.specs.declared.clause.Clause.{Clause}
+use Rattle.sm_kinds.specs.declared.logic.Clause.{Clause}
 use Rattle.sm_clausify.specs.Clauses.{join}
 use Rattle.sm_clausify.proofs.Joins.{join-nil}
 use Rattle.sm_clausify.proofs.build.product.Goals as goal

@@ -1,6 +1,6 @@
 use Rattle.std.proofs.Common.{arith, ◌≡◌, ◌∙◌, ap, false, List, length}
-use Rattle.sm_flat.specs.declared.clause.Clause.{Clause}
-use Rattle.sm_flat.specs.Clauses.{satisfies_each}
+use Rattle.sm_kinds.specs.declared.logic.Clause.{Clause}
+use Rattle.sm_kinds.specs.Logic.{satisfies_each}
 use Rattle.sm_clausify.specs.Propositions.{meaning}
 use Rattle.sm_clausify.proofs.Satisfied.{clauses_satisfied}
 use Rattle.sm_clausify.proofs.Counted.{few_tallied, many_tallied}

@@ -1,7 +1,7 @@
 use Rattle.std.proofs.Common.{◌≡◌, ◌≤◌, ◌*◌, ◌+◌, drop}
 use Rattle.std.specs.Prelude.{sum_by}
-use Rattle.sm_flat.specs.Limits.{set_width}
-use Rattle.sm_flat.specs.declared.var.Var.{Var}
+use Rattle.sm_kinds.specs.Vars.{set_width}
+use Rattle.sm_kinds.specs.declared.var.Var.{Var}
 use Rattle.sm_flat.proofs.limits.widths_of.Given as goal
 
 abbrev pub invariant-loop-var : goal.invariant-loop-var

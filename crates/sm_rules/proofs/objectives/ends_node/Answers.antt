@@ -1,5 +1,5 @@
 use Rattle.std.proofs.Common.{◌≡◌, ◌≤◌, ◌<◌, length}
-use Rattle.sm_flat.specs.Points.{point_of}
+use Rattle.sm_flat.specs.Assignments.{point_of}
 use Rattle.sm_flat.specs.Goals.{no_goal}
 use Rattle.sm_rules.proofs.Fractions.{ends_none, past_from_test}
 use Rattle.sm_rules.proofs.objectives.ends_node.Goals as goal

@@ -1,5 +1,5 @@
 use Rattle.std.proofs.Common.{◌↔◌, drop, map}
-use Rattle.sm_flat.specs.Points.{point_of}
+use Rattle.sm_flat.specs.Assignments.{point_of}
 use Rattle.sm_step.specs.Verdicts.{parts_of}
 use Rattle.sm_rules.specs.Floors.{EndsNode, numbers_of}
 use Rattle.sm_rules.specs.Objectives.{level_of, levels}

@@ -1,6 +1,6 @@
 use Rattle.std.proofs.Common.{arith, ap, length, ℕ, List}
 use Rattle.sm_flat.specs.declared.goal.Goal.{Goal}
-use Rattle.sm_flat.specs.Points.{point_of}
+use Rattle.sm_flat.specs.Assignments.{point_of}
 use Rattle.sm_rules.proofs.Sums.{values_length}
 use Rattle.sm_rules.proofs.objectives.has_values.Goals as goal
 

@@ -1,5 +1,5 @@
 use Rattle.std.proofs.Common.{◌↔◌, drop, map}
-use Rattle.sm_flat.specs.Points.{point_of}
+use Rattle.sm_flat.specs.Assignments.{point_of}
 use Rattle.sm_flat.specs.Goals.{HasValuesBy, HasValues}
 use Rattle.sm_step.specs.Verdicts.{parts_of}
 use Rattle.sm_rules.proofs.objectives.has_values.Given as goal

@@ -1,5 +1,5 @@
 use Rattle.std.proofs.Common.{◌↔◌, drop}
-use Rattle.sm_flat.specs.Points.{point_of}
+use Rattle.sm_flat.specs.Assignments.{point_of}
 use Rattle.sm_flat.specs.Goals.{IsBetterBy, IsBetter}
 use Rattle.sm_rules.proofs.objectives.is_better.Given as goal
 

@@ -1,6 +1,6 @@
 use Rattle.std.proofs.Common.{◌≡◌, drop}
 use Rattle.std.specs.List.{list_all}
-use Rattle.sm_flat.specs.Models.{var_at}
+use Rattle.sm_kinds.specs.Vars.{var_at}
 use Rattle.sm_rules.specs.Objectives.{is_discrete, is_whole}
 use Rattle.sm_rules.proofs.objectives.is_whole.Given as goal
 

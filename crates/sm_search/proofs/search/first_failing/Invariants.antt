@@ -1,8 +1,8 @@
 use Rattle.std.proofs.Common.{◌≡◌, ℕ, ◌<◌, Some}
 use Rattle.std.specs.Prelude.{slice_get}
 use Rattle.sm_flat.specs.declared.form.Constraint.{Constraint}
-use Rattle.sm_flat.specs.Points.{point_of}
-use Rattle.sm_flat.specs.Sat.{Sat}
+use Rattle.sm_flat.specs.Assignments.{point_of}
+use Rattle.sm_flat.specs.Forms.{Sat}
 use Rattle.sm_search.proofs.search.first_failing.Given as goal
 
 abbrev pub invariant-loop-k : goal.invariant-loop-k

@@ -1,6 +1,6 @@
 use Rattle.std.proofs.Common.{◌≡◌, ◌≤◌, length, take}
 use Rattle.std.specs.Prelude.{filter}
-use Rattle.sm_flat.specs.Literals.{passes}
+use Rattle.sm_kinds.specs.Literals.{passes}
 use Rattle.sm_store.proofs.domain.count_passing.Given as goal
 
 abbrev pub invariant-loop-value : goal.invariant-loop-value

@@ -1,5 +1,5 @@
 use Rattle.std.proofs.Common.{◌≡◌, take, map}
-use Rattle.sm_flat.specs.Points.{point_of}
+use Rattle.sm_flat.specs.Assignments.{point_of}
 use Rattle.sm_step.specs.Verdicts.{parts_of}
 use Rattle.sm_search.specs.Leaves.{whole_values}
 use Rattle.sm_search.proofs.search.Search.best_values.Given as goal

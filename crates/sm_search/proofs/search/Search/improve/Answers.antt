@@ -1,6 +1,6 @@
 use Rattle.std.proofs.Common.{rules}
 use Rattle.std.specs.Prelude.{IfSome}
-use Rattle.sm_flat.specs.Points.{point_of}
+use Rattle.sm_flat.specs.Assignments.{point_of}
 use Rattle.sm_flat.specs.Goals.{IsBetter}
 use Rattle.sm_search.proofs.Lines.{allow_solution, next_best, reached_before, reached_after}
 use Rattle.sm_search.proofs.search.Search.improve.Goals as goal

@@ -1,0 +1,12 @@
+pub mod Steps
+pub mod Places
+pub mod Adding
+pub mod Pairs
+pub mod Nearness
+pub mod Packs
+pub mod Pigeons
+pub mod Circuits
+pub mod Multiples
+pub mod EachVar
+pub mod SameValues
+pub mod Laws

@@ -4,3 +4,4 @@ pub mod Reading
 pub mod NameLists
 pub mod SumSteps
 pub mod Prefixes
+pub mod SetVars

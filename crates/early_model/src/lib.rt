@@ -17,7 +17,7 @@
 
 ghost use Rattle.std.specs.Prelude.{◌≡◌, List, ℕ, Err, IfOk, IfSome, IfNone};
 ghost use Rattle.sm_flat.specs.Models.{FlatModel};
-ghost use Rattle.early_model.specs.EarlyModels.{IsEarlyModel};
+ghost use Rattle.early_model.specs.EarlyModels.{IsEarlyModel, AreSets};
 
 mod draft;
 mod evaluate;
@@ -51,8 +51,10 @@ fn model_of(alloc: Global, text: &[u8]) -> Result<Flat, Failure>
 /// # Errors
 ///
 /// Where memory runs out.
+#[tactic(auto, using(crate::proofs::SetVars::early_sets))]
 pub fn read(alloc: Global, text: &[u8]) -> Result<Option<Flat>, AllocError>
     ensures found { IfOk result (λ o. IfSome o (λ m. IsEarlyModel text.now m)) }
+    ensures all_set { IfOk result (λ o. IfSome o (λ m. AreSets m.vars)) }
     ensures none { IfOk result (λ o. IfNone o ((m : FlatModel) → IsEarlyModel text.now m → ⊥)) }
 {
     match model_of(alloc, text) {

@@ -23,7 +23,7 @@ use Rattle.sm_frac.proofs.CommonDenominator.{fraction_sum, fraction_scaled, frac
 use Rattle.sm_certificate.specs.declared.program.Program.{Program}
 use Rattle.sm_certificate.specs.declared.program.LpRow.{LpRow}
 use Rattle.sm_certificate.specs.Totals.{total}
-use Rattle.sm_certificate.specs.Conditions.{IsTerm, IsRow, IsSolvable}
+use Rattle.sm_certificate.specs.Conditions.{IsTerm, IsProgramRow, IsSolvable}
 use Rattle.sm_certificate.specs.Program.{column_count, coefficient, row_bound, SatisfiesRow, cost, cost_of, point_value}
 use Rattle.sm_certificate.specs.Checking.{PassesAt, IsInside, IsBoxed, AreSmall, Meets, terms_value, term_column, term_number, IsProductStep, IsConstantStep, IsTermsStep, IsRowsStep, IsCostStep, IsValueStep}
 use Rattle.sm_certificate.proofs.CertificateLemmas.{passes_at}
@@ -323,7 +323,7 @@ meets_not row s d h lt e m =
     against : (s t b : ℤ) → t ≡ s → b <ℤ t → s ≤ℤ b → ⊥
     against s t b e lt le = omega (arith, ints)
 
-pub row_meets : (n : ℕ) (row : LpRow) (x : ℕ → ℚ) (v : ℚ) → IsRow n row → v ≡ terms_value row.terms x → Meets row v ↔ SatisfiesRow n x row
+pub row_meets : (n : ℕ) (row : LpRow) (x : ℕ → ℚ) (v : ℚ) → IsProgramRow n row → v ≡ terms_value row.terms x → Meets row v ↔ SatisfiesRow n x row
 row_meets n row x v h e =
     let is = e ∙ sym (row_sum n row.terms x h.terms) in (
       λ m. (subst (λ (z : ℚ). row_bound row ≤ℚ z) is m.least, λ q. sym is ∙ m.same q),
@@ -365,14 +365,14 @@ pub row_quick : (row : LpRow) (point : List ℤ) (denominator s : ℤ) → pos 0
 row_quick row point denominator s h is = is (unsigned_abs denominator) (abs_above denominator h)
 
 -- ---- whether a row holds
-pub quick_holds : (row : LpRow) (point : List ℤ) (denominator s : ℤ) (terms : List (ℕ × ℤ)) (b : Bool) → IsRow (length point) row → pos 0 <ℤ denominator → terms ≡ row.terms → ((e : ℕ) → 0 < e → fraction s e ≡ terms_value terms (point_value point (pos e)))
+pub quick_holds : (row : LpRow) (point : List ℤ) (denominator s : ℤ) (terms : List (ℕ × ℤ)) (b : Bool) → IsProgramRow (length point) row → pos 0 <ℤ denominator → terms ≡ row.terms → ((e : ℕ) → 0 < e → fraction s e ≡ terms_value terms (point_value point (pos e)))
     → (IsTrue b ↔ Meets row (fraction s (unsigned_abs denominator))) → IsTrue b ↔ SatisfiesRow (length point) (point_value point denominator) row
 quick_holds row point denominator s terms b h some et is m =
     let v = is (unsigned_abs denominator) (abs_above denominator some) ∙ ap (λ (ts : List (ℕ × ℤ)). terms_value ts (point_value point denominator)) et in
     let iff = row_meets (length point) row (point_value point denominator) (fraction s (unsigned_abs denominator)) h v in
     (λ t. iff.0 (m.0 t), λ a. m.1 (iff.1 a))
 
-pub exact_holds : (row : LpRow) (point : List ℤ) (denominator : ℤ) (f : Frac) (n d : ℤ) (terms : List (ℕ × ℤ)) (b : Bool) → IsRow (length point) row → terms ≡ row.terms → value_of f ≡ terms_value terms (point_value point denominator) → n ≡ f.n → d ≡ f.d
+pub exact_holds : (row : LpRow) (point : List ℤ) (denominator : ℤ) (f : Frac) (n d : ℤ) (terms : List (ℕ × ℤ)) (b : Bool) → IsProgramRow (length point) row → terms ≡ row.terms → value_of f ≡ terms_value terms (point_value point denominator) → n ≡ f.n → d ≡ f.d
     → (IsTrue b ↔ Meets row (fraction n (unsigned_abs d))) → IsTrue b ↔ SatisfiesRow (length point) (point_value point denominator) row
 unfolding value_of
 exact_holds row point denominator f n d terms b h et is en ed m =

@@ -9,7 +9,7 @@ use Rattle.sm_certificate.specs.declared.program.Program.{Program}
 use Rattle.sm_certificate.specs.declared.program.LpRow.{LpRow}
 use Rattle.sm_certificate.specs.Program.{column_count, coefficient}
 use Rattle.sm_certificate.specs.Slacks.{Half, halves, halves_of, number_count}
-use Rattle.sm_certificate.specs.Conditions.{IsSolvable, AreColumns, IsRow}
+use Rattle.sm_certificate.specs.Conditions.{IsSolvable, AreColumns, IsProgramRow}
 use Rattle.sm_certificate.proofs.Totals.{choose, choose_not}
 
 -- ---- counting halves
@@ -62,16 +62,16 @@ columns_of p columns costs e k s =
     subst (λ (xs : List (ℤ × ℤ)). AreColumns xs costs) (sym e)
     (subst (λ (ys : List ℤ). AreColumns p.columns ys) (sym k) (record { costs_long = s.costs; boxes = s.boxes; small_costs = s.small_costs; shifted = s.shifted }))
 
-pub rows_of : (p : Program) (n : ℕ) (rows : List LpRow) → n ≡ column_count p → rows ≡ p.rows → IsSolvable p → All (IsRow n) rows
-rows_of p n rows e k s = subst (λ (m : ℕ). All (IsRow m) rows) (sym e) (subst (λ (rs : List LpRow). All (IsRow (column_count p)) rs) (sym k) s.rows)
+pub rows_of : (p : Program) (n : ℕ) (rows : List LpRow) → n ≡ column_count p → rows ≡ p.rows → IsSolvable p → All (IsProgramRow n) rows
+rows_of p n rows e k s = subst (λ (m : ℕ). All (IsProgramRow m) rows) (sym e) (subst (λ (rs : List LpRow). All (IsProgramRow (column_count p)) rs) (sym k) s.rows)
 
-pub solvable : (p : Program) (columns : List (ℤ × ℤ)) (costs : List ℤ) (n : ℕ) (rows : List LpRow) → columns ≡ p.columns → costs ≡ p.cost → n ≡ column_count p → rows ≡ p.rows → AreColumns columns costs → All (IsRow n) rows → suc (number_count p) < 2 ^ 32 → IsSolvable p
+pub solvable : (p : Program) (columns : List (ℤ × ℤ)) (costs : List ℤ) (n : ℕ) (rows : List LpRow) → columns ≡ p.columns → costs ≡ p.cost → n ≡ column_count p → rows ≡ p.rows → AreColumns columns costs → All (IsProgramRow n) rows → suc (number_count p) < 2 ^ 32 → IsSolvable p
 solvable p columns costs n rows ec ek en er c r m =
     let d = subst (λ (xs : List (ℤ × ℤ)). AreColumns xs p.cost) ec (subst (λ (ys : List ℤ). AreColumns columns ys) ek c) in
     record {
       costs = d.costs_long;
       boxes = d.boxes;
-      rows = subst (λ (m : ℕ). All (IsRow m) p.rows) en (subst (λ (rs : List LpRow). All (IsRow n) rs) er r);
+      rows = subst (λ (m : ℕ). All (IsProgramRow m) p.rows) en (subst (λ (rs : List LpRow). All (IsProgramRow n) rs) er r);
       small_costs = d.small_costs;
       shifted = d.shifted;
       numbered = m;

@@ -17,7 +17,7 @@ pub record IsTerm (n : ℕ) (t : ℕ × ℤ) : Type 0 where
   pub small : unsigned_abs t.1 ≤ 2 ^ 42
 
 -- the terms name different columns, and the bound is within 2 ^ 80
-pub record IsRow (n : ℕ) (row : LpRow) : Type 0 where
+pub record IsProgramRow (n : ℕ) (row : LpRow) : Type 0 where
   pub terms : All (IsTerm n) row.terms
   pub different : AllPairs (λ s t. s.0 ≢ t.0) row.terms
   pub bound : unsigned_abs row.bound ≤ 2 ^ 80
@@ -26,7 +26,7 @@ pub record IsRow (n : ℕ) (row : LpRow) : Type 0 where
 pub record IsSolvable (p : Program) : Type 0 where
   pub costs : length p.cost ≡ column_count p
   pub boxes : All IsBox p.columns
-  pub rows : All (IsRow (column_count p)) p.rows
+  pub rows : All (IsProgramRow (column_count p)) p.rows
   pub small_costs : All (λ c. unsigned_abs c ≤ 2 ^ 42) p.cost
   pub shifted : count_by (λ (box : ℤ × ℤ). not (unsigned_abs box.0 == 0)) p.columns < 2 ^ 20
   pub numbered : suc (number_count p) < 2 ^ 32

@@ -4,7 +4,7 @@ ghost use Rattle.sm_frac.specs.Frac.{value_of};
 ghost use Rattle.sm_frac.specs.Rational.{◌+ℚ◌, ◌-ℚ◌, ◌*ℚ◌, zero_ℚ, whole_ℚ};
 ghost use Rattle.sm_certificate.specs.Signs.{AtLeast};
 ghost use Rattle.sm_certificate.specs.Numbers.{number_at};
-ghost use Rattle.sm_certificate.specs.Conditions.{IsSolvable, IsRow, IsTerm};
+ghost use Rattle.sm_certificate.specs.Conditions.{IsSolvable, IsProgramRow, IsTerm};
 ghost use Rattle.sm_certificate.specs.Program.{column_count, coefficient, AreMultipliers, combined_coefficient, combined_bound, rest_coefficient, least_rest, target_at};
 ghost use Rattle.sm_certificate.specs.Fine.{AreFine};
 ghost use Rattle.sm_certificate.specs.Checking.{PassesAt, IsRowTermsStep, IsColumnsStep, IsDifferencesStep, IsRowsBoundStep, IsConstantStep, with_constant, IsEndStep, IsEndsStep, IsBoundStep, least_end};
@@ -66,7 +66,7 @@ fn column_sums(
     rows: &[LpRow],
     multipliers: &[Frac],
 ) -> Result<Vec<Frac>, RangePassed>
-    requires rows { All (IsRow (vec_len sums)) rows.now }
+    requires rows { All (IsProgramRow (vec_len sums)) rows.now }
     requires long { length multipliers.now ≡ length rows.now }
     requires zero { (j : ℕ) → number_at sums.items j ≡ zero_ℚ }
     ensures long { IfOk result (λ v. vec_len v ≡ vec_len sums) }

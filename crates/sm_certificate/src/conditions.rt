@@ -1,7 +1,7 @@
 //! Which programs can be solved.
 ghost use Rattle.std.specs.Prelude.{◌≡◌, ◌≢◌, ◌≤◌, ◌<◌, ◌+◌, ◌^◌, ◌↔◌, ℕ, IsTrue, All, AllPairs, length, unsigned_abs, count_by, not, ◌==◌, suc, MatchOption};
 ghost use Rattle.sm_certificate.specs.Slacks.{halves, halves_of, number_count};
-ghost use Rattle.sm_certificate.specs.Conditions.{IsSolvable, AreColumns, IsBox, IsTerm, IsRow, HasColumn, LacksColumn};
+ghost use Rattle.sm_certificate.specs.Conditions.{IsSolvable, AreColumns, IsBox, IsTerm, IsProgramRow, HasColumn, LacksColumn};
 
 use crate::program::{LpRow, Program};
 
@@ -52,7 +52,7 @@ fn are_terms(columns: usize, terms: &[(u32, i64)]) -> bool
 }
 
 fn is_row(columns: usize, row: &LpRow) -> bool
-    ensures { IsTrue result ↔ IsRow columns row.now }
+    ensures { IsTrue result ↔ IsProgramRow columns row.now }
 {
     are_terms(columns, row.terms.as_slice()) && row.bound.unsigned_abs() <= 1 << 80
 }
@@ -71,7 +71,7 @@ fn are_boxes(columns: &[(i64, i64)]) -> bool
 }
 
 fn are_rows(columns: usize, rows: &[LpRow]) -> bool
-    ensures { IsTrue result ↔ All (IsRow columns) rows.now }
+    ensures { IsTrue result ↔ All (IsProgramRow columns) rows.now }
 {
     rows.iter().all(|row| is_row(columns, row))
 }

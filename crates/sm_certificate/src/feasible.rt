@@ -2,7 +2,7 @@
 ghost use Rattle.std.specs.Prelude.{◌≡◌, ℕ, ℤ, pos, ◌+ℤ◌, ◌*ℤ◌, ◌<◌, ◌≤◌, ◌<ℤ◌, ◌^◌, ◌↔◌, ◌⊎◌, IsTrue, IfOk, IfErr, IfSome, All, length, unsigned_abs};
 ghost use Rattle.sm_frac.specs.Frac.{value_of};
 ghost use Rattle.sm_frac.specs.Rational.{◌+ℚ◌, ◌*ℚ◌, fraction, whole_ℚ};
-ghost use Rattle.sm_certificate.specs.Conditions.{IsSolvable, IsBox, IsRow, IsTerm};
+ghost use Rattle.sm_certificate.specs.Conditions.{IsSolvable, IsBox, IsProgramRow, IsTerm};
 ghost use Rattle.sm_certificate.specs.Fine.{AreFine};
 ghost use Rattle.sm_certificate.specs.Program.{column_count, cost_of, point_value, SatisfiesRow};
 ghost use Rattle.sm_certificate.specs.Checking.{PassesAt, IsProductStep, IsValueStep, IsTermsStep, IsRowsStep, IsCostStep, IsInside, AreInside, IsBoxed, AreSmall, terms_value, Meets};
@@ -159,7 +159,7 @@ fn meets(row: &LpRow, sum: &(i128, i128)) -> bool
 
 /// Whether the row holds at the point.
 fn row_holds(row: &LpRow, point: &[i128], denominator: i64) -> Result<bool, RangePassed>
-    requires row { IsRow (length point.now) row.now }
+    requires row { IsProgramRow (length point.now) row.now }
     requires small { AreSmall point.now }
     requires denominator { pos 0 <ℤ denominator }
     ensures holds { IfOk result (λ b. IsTrue b ↔ SatisfiesRow (length point.now) (point_value point.now denominator) row.now) }
@@ -178,7 +178,7 @@ pub(crate) fn rows_hold(
     point: &[i128],
     denominator: i64,
 ) -> Result<bool, RangePassed>
-    requires rows { All (IsRow (length point.now)) rows.now }
+    requires rows { All (IsProgramRow (length point.now)) rows.now }
     requires small { AreSmall point.now }
     requires denominator { pos 0 <ℤ denominator }
     ensures hold { IfOk result (λ b. IsTrue b ↔ All (SatisfiesRow (length point.now) (point_value point.now denominator)) rows.now) }

@@ -1,8 +1,8 @@
 //! Whether an assignment fits a model and satisfies its constraints.
-ghost use Rattle.std.specs.Prelude.{◌≡◌, ◌<◌, ◌≤◌, ◌↔◌, ℕ, List, Some, IsTrue, true, length, slice_get};
+ghost use Rattle.std.specs.Prelude.{◌≡◌, ◌<◌, ◌≤◌, ◌%◌, ◌↔◌, ◌*ℤ◌, ◌≤ℤ◌, ℕ, List, pos, Some, IsTrue, true, length, slice_get, slice_index_or};
 ghost use Rattle.sm_kinds.specs.Limits.{most_variables};
 ghost use Rattle.sm_kinds.specs.Points.{HasValue};
-ghost use Rattle.sm_kinds.specs.Vars.{IsOneOf, LiesIn, var_at};
+ghost use Rattle.sm_kinds.specs.Vars.{IsOneOf, IsBetween, IsMultiple, LiesIn, var_at};
 ghost use Rattle.sm_kinds.specs.declared.var.Var.{Var as Variable};
 ghost use Rattle.sm_flat.specs.Assignments.{point_of};
 ghost use Rattle.sm_flat.specs.Forms.{Sat, IsForm, EachVar};
@@ -34,6 +34,44 @@ fn is_one_of<V: Values>(values: &[i64], a: &V, i: u32) -> bool
     false
 }
 
+/// Whether the value of variable i is at least a whole number.
+fn is_at_least<V: Values>(least: i64, a: &V, i: u32) -> bool
+    ensures { IsTrue result ↔ ((least *ℤ (V.point a.now).denominator) ≤ℤ (V.point a.now).numerator i) }
+{
+    scaled(least, a) <= a.numerator(i)
+}
+
+/// Whether the value of variable i is at most a whole number.
+fn is_at_most<V: Values>(greatest: i64, a: &V, i: u32) -> bool
+    ensures { IsTrue result ↔ ((V.point a.now).numerator i ≤ℤ (greatest *ℤ (V.point a.now).denominator)) }
+{
+    a.numerator(i) <= scaled(greatest, a)
+}
+
+/// Whether the value of variable i is between the two ends.
+fn is_between<V: Values>(values: &[i64], a: &V, i: u32) -> bool
+    ensures { IsTrue result ↔ IsBetween ((V.point a.now).numerator i) (V.point a.now).denominator values.now }
+{
+    values.len() >= 2 && is_at_least(values[0], a, i) && is_at_most(values[1], a, i)
+}
+
+/// The rest of a division, the short way where the divisor is 1.
+fn rest_of(whole: u128, unit: u128) -> u128
+    requires { 0 < unit }
+    ensures { result ≡ whole % unit }
+{
+    if unit == 1 { 0 } else { whole % unit }
+}
+
+/// Whether variable i has a whole value.
+fn is_whole<V: Values>(a: &V, i: u32) -> bool
+    ensures { IsTrue result ↔ IsMultiple ((V.point a.now).numerator i) (V.point a.now).denominator }
+{
+    let unit = u128::from(a.denominator().unsigned_abs());
+    let whole = a.numerator(i).unsigned_abs();
+    rest_of(whole, unit) == 0
+}
+
 /// Whether variable i has a value of its declared domain.
 fn lies_in<V: Values>(var: &Var, a: &V, i: u32) -> bool
     ensures { IsTrue result ↔ LiesIn var.now.kind var.now.values ((V.point a.now).numerator i) (V.point a.now).denominator }
@@ -41,6 +79,8 @@ fn lies_in<V: Values>(var: &Var, a: &V, i: u32) -> bool
     let values = var.values.as_slice();
     match var.kind {
         VarKind::Set => is_one_of(values, a, i),
+        VarKind::Int => is_between(values, a, i) && is_whole(a, i),
+        VarKind::Real => is_between(values, a, i),
     }
 }
 

@@ -1,7 +1,7 @@
 //! Variables.
 ghost use Rattle.std.specs.Prelude.{◌≡◌, ◌≤◌, ◌<◌, ◌+◌, ◌^◌, ◌↔◌, IsTrue, All, length};
 ghost use Rattle.sm_kinds.specs.Limits.{IsSmall, most_width};
-ghost use Rattle.sm_kinds.specs.Vars.{IsRising, width_of, first_of, last_of, IsSetDomain, IsDomain, set_width, IsSet, IsDiscrete, is_real_kind, is_real};
+ghost use Rattle.sm_kinds.specs.Vars.{IsRising, width_of, first_of, last_of, IsSetDomain, IsRange, IsDomain, set_width, IsSet, IsDiscrete, is_real_kind, is_real};
 
 use crate::limits::{MOST_WIDTH, are_small};
 use sqlite_items::Items;
@@ -11,6 +11,10 @@ use sqlite_items::Items;
 pub enum VarKind {
     /// A list of whole numbers.
     Set,
+    /// The whole numbers from a least to a greatest.
+    Int,
+    /// All numbers from a least to a greatest.
+    Real,
 }
 
 /// A variable of a model.
@@ -19,7 +23,7 @@ pub struct Var {
     /// The name in the model's text, as bytes.
     pub name: Items<u8>,
     pub kind: VarKind,
-    /// The declared domain: for `Set` its values, in increasing order.
+    /// The declared domain: for `Set` its values, in increasing order, and for `Int` and `Real` the least and the greatest.
     pub values: Items<i64>,
 }
 
@@ -54,16 +58,24 @@ fn is_set_domain(values: &[i64]) -> bool
     !values.is_empty() && are_small(values) && is_rising(values) && width_of(values) <= MOST_WIDTH
 }
 
+/// Whether the values are the ends of a range.
+fn is_range(values: &[i64]) -> bool
+    ensures { IsTrue result ↔ IsRange values.now }
+{
+    values.len() == 2 && values[0] <= values[1] && are_small(values)
+}
+
 /// Whether the variable has a domain that its kind may have.
 pub fn is_domain(var: &Var) -> bool
     ensures { IsTrue result ↔ IsDomain var.now.kind var.now.values }
 {
     match var.kind {
         VarKind::Set => is_set_domain(var.values.as_slice()),
+        VarKind::Int | VarKind::Real => is_range(var.values.as_slice()),
     }
 }
 
-/// The width of a set variable.
+/// The width of a set variable, and 0 for another.
 pub fn set_width(var: &Var) -> u64
     requires { IsDomain var.now.kind var.now.values }
     ensures value { result ≡ set_width var.now.kind var.now.values }
@@ -71,6 +83,7 @@ pub fn set_width(var: &Var) -> u64
 {
     match var.kind {
         VarKind::Set => width_of(var.values.as_slice()),
+        VarKind::Int | VarKind::Real => 0,
     }
 }
 
@@ -89,7 +102,7 @@ pub fn is_discrete(vars: &[Var], i: u32) -> bool
     ensures { IsTrue result ↔ IsDiscrete vars.now i }
 {
     match vars.get(i as usize) {
-        Some(var) => !is_real_kind(var.kind),
+        Some(var) => var.kind != VarKind::Real,
         None => false,
     }
 }
@@ -99,7 +112,8 @@ pub fn is_real_kind(kind: VarKind) -> bool
     ensures { result ≡ is_real_kind kind }
 {
     match kind {
-        VarKind::Set => false,
+        VarKind::Set | VarKind::Int => false,
+        VarKind::Real => true,
     }
 }
 

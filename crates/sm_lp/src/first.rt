@@ -5,7 +5,7 @@ ghost use Rattle.sm_frac.specs.Rational.{neg_ℚ, zero_ℚ, whole_ℚ, ◌*ℚ�
 ghost use Rattle.sm_certificate.specs.Numbers.{number_at};
 ghost use Rattle.sm_certificate.specs.Totals.{total};
 ghost use Rattle.sm_certificate.specs.Program.{column_count, coefficient};
-ghost use Rattle.sm_certificate.specs.Conditions.{IsSolvable, IsTerm, IsBox, IsRow};
+ghost use Rattle.sm_certificate.specs.Conditions.{IsSolvable, IsTerm, IsBox, IsProgramRow};
 ghost use Rattle.sm_lp.specs.First.{first};
 ghost use Rattle.sm_certificate.specs.Slacks.{halves, halves_of, half_count, slack_count, number_count};
 ghost use Rattle.sm_lp.specs.Table.{dictionary_of};
@@ -144,7 +144,7 @@ fn write_halves_of(
     row: &LpRow,
 ) -> Result<Vec<Frac>, AllocError>
     requires solvable { IsSolvable program.now }
-    requires row { IsRow (column_count program.now) row.now }
+    requires row { IsProgramRow (column_count program.now) row.now }
     requires inside { start + length (halves_of row.now) * suc (column_count program.now) ≤ vec_len cells }
     ensures { IfOk result (λ new. AreHalvesWritten program.now row.now cells.items new.items start) }
 {

@@ -1,3 +1,13 @@
+pub mod Filters
+pub mod Ranges
 pub mod Orders
 pub mod Narrowing
 pub mod Parts
+pub mod Exactness
+pub mod Listed
+pub mod Masks
+pub mod WordPlaces
+pub mod Sets
+pub mod Cells
+pub mod Laying
+pub mod Declared

@@ -1,150 +1,159 @@
-//! The values that one variable may still have.
-ghost use Rattle.std.specs.Prelude.{◌≡◌, ◌<◌, ◌≤◌, ◌^◌, ◌↔◌, filter, length, unsigned_abs, IsSome, IfOk, IfSome};
-ghost use Rattle.sm_kinds.specs.Literals.{passes};
-ghost use Rattle.sm_kinds.specs.Vars.{IsDomain};
-ghost use Rattle.sm_store.specs.Stores.{IsOrdered, kept, least_of, greatest_of, fixed_value};
+//! The values that one variable may still have, as a query reads them.
+ghost use Rattle.std.specs.Prelude.{◌≡◌, ◌≢◌, ◌<◌, ◌≤◌, ◌^◌, ◌↔◌, pos, length, unsigned_abs, [], IsTrue, IsSome, IfSome};
+ghost use Rattle.sm_kinds.specs.Vars.{LiesIn};
+ghost use Rattle.sm_kinds.specs.declared.var.VarKind.TheVariants.{Set as Listed};
+ghost use Rattle.sm_store.specs.Stores.{AreWordsOf, kept, truth_in, least_of, greatest_of, size_in, fixed_value};
 
-use sm_flat::{Literal, Test, Var, VarKind};
-use std::alloc::{AllocError, Global};
+use crate::place::Place;
+use crate::summary::summary_in;
+use crate::{range, set, words};
+use sm_flat::{Literal, VarKind};
 use std::marker::Model;
 
-/// The values that one variable may still have: for `Set` a list, in increasing order.
+/// The values that one variable may still have: its part of a store's block.
 #[derive(Drop)]
-pub struct Domain {
+pub(crate) struct Domain<'a> {
     kind: VarKind,
-    values: Vec<i64>,
+    base: i64,
+    part: &'a [u64],
 }
 
-impl Model for Domain {
-    ghost use Rattle.sm_store.specs.Stores.{Extent, IsOrdered};
+impl<'a> Model for Domain<'a> {
+    ghost use Rattle.sm_store.specs.Stores.{Extent};
 
     ghost Value = { Extent };
 
-    ghost view = { λ d. record { kind = d.kind; values = d.values.items } };
+    ghost use Rattle.sm_store.specs.Blocks.{extent_in, IsPart};
 
-    ghost invariant = { λ d. IsOrdered d.values.items };
+    ghost view = { λ d. extent_in d.kind d.base d.part.now };
+
+    ghost invariant = { λ d. IsPart d.kind d.base d.part.now };
 }
 
-/// Whether the literal is true of the value.
-pub(crate) fn passes(literal: &Literal, value: &i64) -> bool
-    ensures { result ≡ passes literal.now value.now }
-{
-    match literal.test {
-        Test::AtMost => *value <= literal.bound,
-        Test::AtLeast => *value >= literal.bound,
-        Test::Equal => *value == literal.bound,
-        Test::Unequal => *value != literal.bound,
-    }
-}
+impl<'a> Domain<'a> {
+    ghost use Rattle.sm_store.specs.Blocks.{extent_in, IsPart};
 
-/// Keeps the values of which the literal is true.
-fn keep_passing(values: &mut Vec<i64>, literal: &Literal)
-    ensures { values.new.items ≡ filter (passes literal.now) values.old.items }
-{
-    values.retain(|value| passes(literal, value));
-}
-
-/// Keeps the numbers of which the literal is true, as the kind reads them.
-fn keep(kind: VarKind, values: &mut Vec<i64>, literal: &Literal)
-    ensures { values.new.items ≡ kept kind literal.now values.old.items }
-{
-    match kind {
-        VarKind::Set => keep_passing(values, literal),
-    }
-}
-
-/// How many of the values the literal is true of.
-fn count_passing(values: &[i64], literal: &Literal) -> usize
-    ensures { result ≡ length (filter (passes literal.now) values.now) }
-{
-    let mut count: usize = 0;
-    for value in values {
-        if passes(literal, value) {
-            count += 1;
+    /// The domain of a variable with this part.
+    pub(crate) fn new(place: &Place, part: &'a [u64]) -> Domain<'a>
+        requires { IsPart place.now.kind place.now.base part.now }
+        ensures { result ≡ extent_in place.now.kind place.now.base part.now }
+    {
+        Domain {
+            kind: place.kind,
+            base: place.base,
+            part,
         }
-    }
-    count
-}
-
-impl Domain {
-    /// The declared domain of a variable.
-    #[tactic(auto, using(crate::proofs::Orders::domain_ordered))]
-    pub fn declared(alloc: Global, var: &Var) -> Result<Domain, AllocError>
-        requires { IsDomain var.now.kind var.now.values }
-        ensures { IfOk result (λ d. d ≡ record { kind = var.now.kind; values = var.now.values }) }
-    {
-        let values = Vec::from_slice(alloc, var.values.as_slice())?;
-        Ok(Domain {
-            kind: var.kind,
-            values,
-        })
-    }
-
-    /// A copy in memory of its own.
-    pub fn copy(&self) -> Result<Domain, AllocError>
-        ensures { IfOk result (λ d. d ≡ self.now) }
-    {
-        let values = self.values.clone()?;
-        Ok(Domain {
-            kind: self.kind,
-            values,
-        })
-    }
-
-    /// The values, in increasing order.
-    pub fn values(&self) -> &[i64]
-        ensures value { result.now ≡ self.now.values }
-        ensures ordered { IsOrdered self.now.values }
-    {
-        self.values.as_slice()
     }
 
     /// The least and the greatest value, where there is one.
-    pub fn bounds(&self) -> Option<(i64, i64)>
+    pub(crate) fn bounds(&self) -> Option<(i64, i64)>
         ensures variant { IsSome result ↔ (0 < length self.now.values) }
         ensures value { IfSome result (λ b. (b.0 ≡ least_of self.now) × (b.1 ≡ greatest_of self.now)) }
         ensures small { IfSome result (λ b. (unsigned_abs b.0 ≤ 2 ^ 31) × (unsigned_abs b.1 ≤ 2 ^ 31)) }
     {
-        let (first, last) = (self.values.first()?, self.values.last()?);
-        Some((*first, *last))
+        let summary = summary_in(self.part);
+        if summary.least <= summary.greatest {
+            Some((summary.least, summary.greatest))
+        } else {
+            None
+        }
     }
 
     /// The least value, and 0 where there is none.
-    pub fn least(&self) -> i64
+    pub(crate) fn least(&self) -> i64
         ensures value { result ≡ least_of self.now }
         ensures small { unsigned_abs result ≤ 2 ^ 31 }
     {
-        match self.values.first() {
-            Some(least) => *least,
+        match self.bounds() {
+            Some((least, _)) => least,
             None => 0,
         }
     }
 
     /// The value, where there is just one.
-    pub fn fixed(&self) -> Option<i64>
+    pub(crate) fn fixed(&self) -> Option<i64>
         ensures value { result ≡ fixed_value self.now.kind self.now.values }
         ensures small { IfSome result (λ v. unsigned_abs v ≤ 2 ^ 31) }
     {
-        match (self.kind, self.values.as_slice()) {
-            (VarKind::Set, [value]) => Some(*value),
-            (VarKind::Set, _) => None,
+        let summary = summary_in(self.part);
+        if summary.size == 1 {
+            Some(summary.least)
+        } else {
+            None
         }
     }
 
-    /// How many values the literal would leave.
-    pub fn count_passing(&self, literal: &Literal) -> usize
-        ensures { result ≡ length (kept self.now.kind literal.now self.now.values) }
+    /// How many values there are; those of a real variable aren't counted.
+    pub(crate) fn size(&self) -> u64
+        ensures { result ≡ size_in self.now.kind self.now.values }
+    {
+        summary_in(self.part).size
+    }
+
+    /// Whether there is no value.
+    pub(crate) fn is_empty(&self) -> bool
+        ensures { IsTrue result ↔ (self.now.values ≡ []) }
+    {
+        self.bounds().is_none()
+    }
+
+    /// Whether this whole number is one of the values.
+    pub(crate) fn has(&self, value: i64) -> bool
+        ensures { IsTrue result ↔ LiesIn self.now.kind self.now.values value (pos 1) }
+    {
+        let summary = summary_in(self.part);
+        match self.kind {
+            VarKind::Set => words::has(set::words_in(self.part), &self.base, &value),
+            VarKind::Int => range::is_inside(&value, summary.least, summary.greatest),
+            VarKind::Real => range::is_between(&value, summary.least, summary.greatest),
+        }
+    }
+
+    /// Whether the literal leaves a value.
+    pub(crate) fn leaves(&self, literal: &Literal) -> bool
+        ensures { IsTrue result ↔ (0 < length (kept self.now.kind literal.now self.now.values)) }
+    {
+        let summary = summary_in(self.part);
+        match self.kind {
+            VarKind::Set => set::leaves(literal, &self.base, self.part),
+            VarKind::Int => range::leaves(literal, summary.least, summary.greatest),
+            VarKind::Real => summary.least <= summary.greatest,
+        }
+    }
+
+    /// Whether the literal makes the domain another one.
+    pub(crate) fn changes(&self, literal: &Literal) -> bool
+        ensures { IsTrue result ↔ (kept self.now.kind literal.now self.now.values ≢ self.now.values) }
+    {
+        let summary = summary_in(self.part);
+        match self.kind {
+            VarKind::Set => set::changes(literal, &self.base, self.part),
+            VarKind::Int => range::changes(literal, summary.least, summary.greatest),
+            VarKind::Real => false,
+        }
+    }
+
+    /// What the literal is for all values, where they agree.
+    pub(crate) fn truth(&self, literal: &Literal) -> Option<bool>
+        ensures { result ≡ truth_in literal.now self.now }
+    {
+        let summary = summary_in(self.part);
+        match self.kind {
+            VarKind::Set => set::truth(literal, &self.base, self.part),
+            VarKind::Int => range::truth(literal, summary.least, summary.greatest),
+            VarKind::Real => None,
+        }
+    }
+
+    /// The base and the words, where they are of a set.
+    pub(crate) fn words(&self) -> Option<(i64, &'a [u64])>
+        ensures variant { IsSome result ↔ (self.now.kind ≡ Listed) }
+        ensures base { IfSome result (λ w. w.0 ≡ self.now.base) }
+        ensures words { IfSome result (λ w. AreWordsOf self.now w.1.now) }
     {
         match self.kind {
-            VarKind::Set => count_passing(self.values.as_slice(), literal),
+            VarKind::Set => Some((self.base, set::words_in(self.part))),
+            VarKind::Int | VarKind::Real => None,
         }
-    }
-
-    /// Keeps the values of which the literal is true.
-    #[tactic(auto, using(crate::proofs::Orders::ordered_kept))]
-    pub fn narrow(&mut self, literal: &Literal)
-        ensures { self.new ≡ record self.old { values = kept self.old.kind literal.now self.old.values } }
-    {
-        keep(self.kind, &mut self.values, literal);
     }
 }

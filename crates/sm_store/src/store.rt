@@ -1,18 +1,27 @@
 //! The values that all variables may still have.
-ghost use Rattle.std.specs.Prelude.{◌≡◌, ◌<◌, ◌≤◌, ◌≤ℤ◌, ◌^◌, ◌↔◌, [], pos, is_some, All, Any, Contains, length, unsigned_abs, IsTrue, IsSome, IfOk, IfSome};
-ghost use Rattle.sm_kinds.specs.Vars.{IsDomain};
-ghost use Rattle.sm_kinds.specs.declared.var.Var.{Var as Variable};
-ghost use Rattle.sm_store.specs.Stores.{declared, narrow, extent_at, least_of, greatest_of, fixed_value, fixed_at, fixed_point, truth_of, Narrows, Changes};
+ghost use Rattle.std.specs.Prelude.{◌≡◌, ◌<◌, ◌≤◌, ◌≤ℤ◌, ◌^◌, ◌↔◌, [], pos, is_some, Any, length, unsigned_abs, IsTrue, IsSome, IfOk, IfSome};
+ghost use Rattle.sm_kinds.specs.Vars.{LiesIn};
+ghost use Rattle.sm_kinds.specs.declared.var.VarKind.TheVariants.{Set as Listed};
+ghost use Rattle.sm_store.specs.Stores.{AreWordsOf, declared, narrow, extent_at, least_of, greatest_of, fixed_value, fixed_at, fixed_point, size_in, truth_of, Narrows, Changes};
 
+use crate::build::declared_block;
 use crate::domain::Domain;
-use sm_flat::{Flat, Literal, Values, Var, VarTest};
+use crate::layout::{domain_at, narrow_at};
+use crate::place::Place;
+use sm_flat::{Flat, Literal, Values, VarTest};
 use std::alloc::{AllocError, Global};
 use std::marker::Model;
+use std::rc::Rc;
 
 /// The values that each variable of a model may still have, by number of variable.
 #[derive(Drop)]
 pub struct Store {
-    domains: Vec<Domain>,
+    /// Where each variable lies in the block; a store and its copies have one list of them.
+    places: Rc<Vec<Place>>,
+    /// The numbers of all variables, so that a copy is one move of memory.
+    block: Vec<u64>,
+    /// Whether some variable has no value.
+    empty: bool,
 }
 
 impl Model for Store {
@@ -21,105 +30,95 @@ impl Model for Store {
 
     ghost Value = { List Extent };
 
-    ghost view = { λ s. s.domains.items };
-}
+    ghost use Rattle.sm_store.specs.Blocks.{shown, IsKept};
 
-/// The declared domains of these variables.
-fn declared_domains(alloc: Global, vars: &[Var]) -> Result<Vec<Domain>, AllocError>
-    requires { All (λ (v : Variable). IsDomain v.kind v.values) vars.now }
-    ensures { IfOk result (λ ds. ds.items ≡ declared vars.now) }
-{
-    let mut domains = Vec::with_capacity(alloc, vars.len())?;
-    for var in vars {
-        domains.push(Domain::declared(alloc, var)?)?;
-    }
-    Ok(domains)
-}
+    ghost view = { λ s. shown s.places.value.items s.block.items };
 
-fn copied(alloc: Global, domains: &[Domain]) -> Result<Vec<Domain>, AllocError>
-    ensures { IfOk result (λ ds. ds.items ≡ domains.now) }
-{
-    let mut copies = Vec::with_capacity(alloc, domains.len())?;
-    for domain in domains {
-        copies.push(domain.copy()?)?;
-    }
-    Ok(copies)
-}
-
-/// Whether some domain has no value.
-fn any_empty(domains: &[Domain]) -> bool
-    ensures { IsTrue result ↔ Any (λ e. e.values ≡ []) domains.now }
-{
-    domains.iter().any(|domain| domain.values().is_empty())
+    ghost invariant = { λ s. IsKept s.places.value.items s.block.items s.empty };
 }
 
 impl Store {
     ghost use Rattle.sm_flat.specs.Limits.{IsFlat};
 
     /// The store of the declared domains of a model.
+    #[tactic(auto, unfolding(crate::specs::Blocks::shown, crate::specs::Blocks::IsKept))]
     pub fn declared(alloc: Global, flat: &Flat) -> Result<Store, AllocError>
         ensures { IfOk result (λ s. s ≡ declared flat.now.vars) }
     {
-        let domains = declared_domains(alloc, flat.vars())?;
-        Ok(Store { domains })
+        let (places, block) = declared_block(alloc, flat.vars())?;
+        let places = Rc::new(alloc, places)?;
+        Ok(Store {
+            places,
+            block,
+            empty: false,
+        })
     }
 
     /// A copy in memory of its own.
     pub fn copy(&self, alloc: Global) -> Result<Store, AllocError>
         ensures { IfOk result (λ s. s ≡ self.now) }
     {
-        let domains = copied(alloc, self.domains.as_slice())?;
-        Ok(Store { domains })
+        let places = self.places.clone()?;
+        let block = Vec::from_slice(alloc, self.block.as_slice())?;
+        Ok(Store {
+            places,
+            block,
+            empty: self.empty,
+        })
     }
 
     /// The domain of a variable.
-    pub fn domain(&self, var: u32) -> &Domain
+    #[tactic(auto, unfolding(crate::specs::Blocks::shown, crate::specs::Blocks::IsKept))]
+    fn domain(&self, var: u32) -> Domain<'_>
         requires { var < length self.now }
-        ensures { result.now ≡ extent_at self.now var }
+        ensures { result ≡ extent_at self.now var }
     {
-        &self.domains[var as usize]
+        domain_at(self.places.as_slice(), self.block.as_slice(), var)
     }
 
-    /// Keeps of the literal's variable the values of which the literal is true, and says whether one was removed.
+    /// Keeps of the literal's variable what the literal leaves, and says whether that is another domain.
+    #[tactic(auto, unfolding(crate::specs::Blocks::shown, crate::specs::Blocks::IsKept))]
     pub fn narrow(&mut self, literal: &Literal) -> bool
         requires { literal.now.var < length self.old }
         ensures narrowed { self.new ≡ narrow self.old literal.now }
         ensures changed { IsTrue result ↔ Changes self.old literal.now }
     {
-        let domain = &mut self.domains[literal.var as usize];
-        let before = domain.values().len();
-        domain.narrow(literal);
-        domain.values().len() < before
+        narrow_at(
+            self.places.as_slice(),
+            self.block.as_mut_slice(),
+            &mut self.empty,
+            literal,
+        )
     }
 
-    /// Whether the literal leaves a value of its variable, and removes one.
+    /// Whether the literal leaves a value of its variable, and changes its domain.
     pub fn narrows(&self, literal: &Literal) -> bool
         ensures { IsTrue result ↔ Narrows self.now literal.now }
     {
         if literal.bound.unsigned_abs() > 1 << 32 {
             return false;
         }
-        match self.domains.get(literal.var as usize) {
-            Some(domain) => {
-                let left = domain.count_passing(literal);
-                0 < left && left < domain.values().len()
-            }
-            None => false,
+        if literal.var as usize >= self.len() {
+            return false;
         }
+        let domain = self.domain(literal.var);
+        domain.leaves(literal) && domain.changes(literal)
     }
 
     /// Whether some variable has no value left.
+    #[tactic(auto, unfolding(crate::specs::Blocks::shown, crate::specs::Blocks::IsKept))]
     pub fn empty(&self) -> bool
         ensures { IsTrue result ↔ Any (λ e. e.values ≡ []) self.now }
     {
-        any_empty(self.domains.as_slice())
+        self.empty
     }
 
     /// How many variables the store has.
+    #[tactic(auto, unfolding(crate::specs::Blocks::shown, crate::specs::Blocks::IsKept))]
     pub fn len(&self) -> usize
         ensures { result ≡ length self.now }
     {
-        self.domains.len()
+        self.places.len()
     }
 
     /// The least and the greatest value of a variable; none exactly where it has no value.
@@ -135,9 +134,20 @@ impl Store {
     /// Whether a variable may still have a value.
     pub fn has(&self, var: u32, value: i64) -> bool
         requires { var < length self.now }
-        ensures { IsTrue result ↔ Contains (extent_at self.now var).values value }
+        ensures { IsTrue result ↔ LiesIn (extent_at self.now var).kind (extent_at self.now var).values value (pos 1) }
     {
-        self.domain(var).values().contains(&value)
+        self.domain(var).has(value)
+    }
+
+    /// The base and the words of a variable of kind `Set`, and none for another: place p of the words is 1 exactly where base + p is
+    /// in the domain. The base is the greatest multiple of 64 at or below the least declared value.
+    pub fn words(&self, var: u32) -> Option<(i64, &[u64])>
+        requires { var < length self.now }
+        ensures variant { IsSome result ↔ ((extent_at self.now var).kind ≡ Listed) }
+        ensures base { IfSome result (λ w. w.0 ≡ (extent_at self.now var).base) }
+        ensures words { IfSome result (λ w. AreWordsOf (extent_at self.now var) w.1.now) }
+    {
+        self.domain(var).words()
     }
 
     /// The value of a variable that has just one.
@@ -152,9 +162,9 @@ impl Store {
     /// How many values a variable may still have.
     pub fn size(&self, var: u32) -> u64
         requires { var < length self.now }
-        ensures { result ≡ length (extent_at self.now var).values }
+        ensures { result ≡ size_in (extent_at self.now var).kind (extent_at self.now var).values }
     {
-        self.domain(var).values().len() as u64
+        self.domain(var).size()
     }
 
     /// What the literal is for all values that its variable may have, where they agree.
@@ -162,18 +172,7 @@ impl Store {
         requires { literal.now.var < length self.now }
         ensures { result ≡ truth_of self.now literal.now }
     {
-        let domain = self.domain(literal.var);
-        let passing = domain.count_passing(literal);
-        if domain.values().is_empty() {
-            return None;
-        }
-        if passing == domain.values().len() {
-            return Some(true);
-        }
-        if passing == 0 {
-            return Some(false);
-        }
-        None
+        self.domain(literal.var).truth(literal)
     }
 }
 
@@ -194,9 +193,10 @@ impl Values for Store {
         ensures value { result ≡ (fixed_point self.now).numerator var }
         ensures bound { unsigned_abs result ≤ 2 ^ 83 }
     {
-        match self.domains.get(var as usize) {
-            Some(domain) => i128::from(domain.least()),
-            None => 0,
+        if (var as usize) < self.len() {
+            i128::from(self.domain(var).least())
+        } else {
+            0
         }
     }
 }
@@ -211,9 +211,6 @@ impl VarTest for Store {
     fn test(&self, var: u32) -> bool
         ensures { result ≡ is_some (fixed_at self.now var) }
     {
-        match self.domains.get(var as usize) {
-            Some(domain) => domain.fixed().is_some(),
-            None => false,
-        }
+        (var as usize) < self.len() && self.domain(var).fixed().is_some()
     }
 }

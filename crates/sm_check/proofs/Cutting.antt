@@ -1,10 +1,10 @@
 -- Cutting bytes after each line end, and the lines' texts as pieces.
-use Rattle.std.proofs.Common.{◌≡◌, ◌≢◌, ◌++◌, ◌+◌, ◌<◌, ◌≤◌, ℕ, Bool, true, false, List, [], ◌∷◌, length, take, drop, refl, sym, ◌∙◌, arith, ◌⊎◌, inl, inr, length-append}
-use Rattle.std.specs.Prelude.{◌==◌, All, codes}
-use Rattle.std.proofs.lemmas.List.Elements.{All-head, All-tail, All-append}
+use Rattle.std.proofs.Common.{◌≡◌, ◌≢◌, ◌++◌, ◌<◌, ℕ, false, List, [], ◌∷◌, length, refl, arith, length-append}
+use Rattle.std.specs.Prelude.{◌==◌}
+use Rattle.std.proofs.lemmas.List.Elements.{All-head, All-tail}
 use Rattle.sm_step.specs.declared.line.Line.{Line}
 use Rattle.sm_step.specs.Text.{text_of, body_text}
-use Rattle.sm_check.specs.Replays.{joined, cut}
+use Rattle.sm_check.specs.Replays.{cut}
 use Rattle.sm_check.specs.Feeds.{HasNoEnd, IsPiece}
 
 other_test : (a b : ℕ) → a ≢ b → (a == b) ≡ false

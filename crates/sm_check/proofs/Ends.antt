@@ -1,6 +1,6 @@
 -- A line's text has one line end, its last byte; so the texts of lines are cut into these.
-use Rattle.std.proofs.Common.{◌≡◌, ◌++◌, ◌+◌, ◌<◌, ◌≤◌, ◌^◌, ℕ, ℤ, pos, negsuc, suc, Bool, true, false, cond, List, [], ◌∷◌, Option, Some, None, length, refl, sym, ap, ◌∙◌, arith, FitsSigned}
-use Rattle.std.specs.Prelude.{◌==◌, ◌≤ℤ◌, All, codes, map, unsigned_abs, if◌then◌else◌}
+use Rattle.std.proofs.Common.{◌≡◌, ◌++◌, ◌+◌, ◌<◌, ◌^◌, ℕ, ℤ, pos, negsuc, suc, Bool, true, false, cond, List, [], ◌∷◌, Option, Some, None, refl, ap, ◌∙◌, arith, FitsSigned}
+use Rattle.std.specs.Prelude.{◌==◌, All, codes, map, unsigned_abs, if◌then◌else◌}
 use Rattle.std.specs.List.{flat_map}
 use Rattle.std.specs.Fmt.{decimal}
 use Rattle.std.specs.Str.Parse.{AllDigits}
@@ -37,7 +37,7 @@ use Rattle.sm_step.specs.PartText.{number_text, test_text, literal_text, fractio
 use Rattle.sm_step.specs.RowText.{column_text, row_text, term_text, terms_text}
 use Rattle.sm_step.specs.RuleText.{task_text, rule_text, outcome_text}
 use Rattle.sm_step.specs.Text.{listed_text, pattern_text, program_text, operation_text, best_text, verdict_text, body_text, text_of}
-use Rattle.sm_step.specs.Grammar.{IsNumber, IsWhole, IsDenominator, IsLiteral, IsList, RisesFrom, AreValues, ArePrices, IsColumn, ComesBefore, FollowInOrder, AreColumns, IsRow, IsTerm, IsTask, IsRule, IsOutcome, IsOneOutcome, IsListed, IsPattern, IsProgram, IsBest, IsVerdict, IsInRange, IsLine}
+use Rattle.sm_step.specs.Grammar.{IsNumber, IsWhole, IsDenominator, IsLiteral, IsList, RisesFrom, IsColumn, FollowInOrder, AreColumns, IsRow, IsTerm, IsTask, IsRule, IsOutcome, IsOneOutcome, IsListed, IsPattern, IsProgram, IsVerdict, IsInRange, IsLine}
 use Rattle.sm_step.proofs.Lines.{line_in_range}
 use Rattle.sm_check.specs.Replays.{cut}
 use Rattle.sm_check.specs.Feeds.{HasNoEnd, IsPiece}

@@ -3,7 +3,7 @@ use Rattle.std.proofs.Common.{◌≡◌, ◌≢◌, ◌++◌, ◌+◌, ◌-◌, 
 use Rattle.std.specs.Prelude.{IfSome}
 use Rattle.std.proofs.Math.Seq.{take-add}
 use Rattle.std.proofs.lemmas.List.{drop-drop, take_at}
-use Rattle.sm_check.specs.Feeds.{Fed, HasNoEnd, IsPiece, IsFront, Fetches, Gathers, Readies}
+use Rattle.sm_check.specs.Feeds.{Fed, HasNoEnd, IsPiece, Fetches, Gathers, Readies}
 
 told_none : (held : Option (List ℕ)) (place : ℕ) → IfSome held (λ file. [] ≡ take 0 (drop place file))
 told_none None place = tt

@@ -1,5 +1,5 @@
 -- A log comes to one outcome.
-use Rattle.std.proofs.Common.{◌≡◌, ◌++◌, ◌+◌, ℕ, suc, List, [], ◌∷◌, length, Option, Some, None, refl, sym, ap, ◌∙◌, subst, ◌⊎◌, inl, inr}
+use Rattle.std.proofs.Common.{◌≡◌, ◌++◌, ◌+◌, ℕ, suc, List, [], ◌∷◌, length, Some, refl, sym, ap, ◌∙◌, subst, ◌⊎◌, inl, inr}
 use Rattle.std.specs.Prelude.{All, map}
 use Rattle.std.proofs.lemmas.List.Elements.{All-head, All-tail}
 use Rattle.sm_flat.specs.Models.{FlatModel}
@@ -13,8 +13,8 @@ use Rattle.sm_rules.specs.declared.cause.Cause.TheVariants.{Grammar, Order, Law,
 use Rattle.sm_rules.specs.declared.cause.Cause.TheVariants as cause
 use Rattle.sm_rules.specs.States.{State}
 use Rattle.sm_rules.specs.Laws.{Allowed}
-use Rattle.sm_rules.specs.Steps.{after, start, Replays, IsRefusedFor}
-use Rattle.sm_check.specs.Replays.{cut, ReplaysTo, EndsIn, IsRefusedPiece, FailsNext, FailsAt}
+use Rattle.sm_rules.specs.Transitions.{after, start, Replays, IsRefusedFor}
+use Rattle.sm_check.specs.Replays.{EndsIn, IsRefusedPiece, FailsNext, FailsAt}
 
 allowed_or_refused : (m : FlatModel) (s : State) (l : Line) (c : Cause) → Allowed m s l → IsRefusedFor m s l c → ⊥
 allowed_or_refused m s l Grammar ok fact = fact

@@ -1,6 +1,6 @@
 -- From line to line of a log.
-use Rattle.std.proofs.Common.{◌≡◌, ◌≢◌, ◌++◌, ◌+◌, ◌-◌, ◌<◌, ◌≤◌, ◌^◌, ℕ, List, [], ◌∷◌, length, take, drop, Option, Some, None, refl, sym, ap, ◌∙◌, subst, append_assoc, append-nil, arith, ◌⊎◌, inl, inr, length-append}
-use Rattle.std.specs.Prelude.{All, IfSome, IfOk, IfErr, OnOk, Result, Ok, Err, map}
+use Rattle.std.proofs.Common.{◌≡◌, ◌++◌, ◌+◌, ◌-◌, ◌<◌, ◌≤◌, ◌^◌, ℕ, List, [], ◌∷◌, length, take, drop, Option, Some, None, refl, sym, ap, ◌∙◌, append_assoc, append-nil, arith, inl, inr, length-append}
+use Rattle.std.specs.Prelude.{IfSome, IfOk, IfErr, OnOk, Result, Ok, Err, map}
 use Rattle.std.proofs.Math.Seq.{take-add}
 use Rattle.std.proofs.lemmas.List.{take-append-drop, take_all, drop_all, length-take-le, length-drop, map-append}
 use Rattle.std.proofs.lemmas.List.Elements.{All-push, All-nil}
@@ -14,17 +14,17 @@ use Rattle.sm_rules.specs.declared.cause.Cause.TheVariants.{End}
 use Rattle.sm_rules.specs.declared.cause.Cause.TheVariants as cause
 use Rattle.sm_rules.specs.States.{State}
 use Rattle.sm_rules.specs.Laws.{Allowed}
-use Rattle.sm_rules.specs.Steps.{after, start, Replays, IsRefusedFor}
+use Rattle.sm_rules.specs.Transitions.{after, Replays, IsRefusedFor}
 use Rattle.sm_rules.specs.declared.log_state.ApplyRefusal.{ApplyRefusal}
 use Rattle.sm_rules.specs.declared.log_state.ApplyRefusal.TheVariants as refusal
 use Rattle.sm_rules.specs.Refusals.{IsRefusedBy}
 use Rattle.sm_rules.specs.Sound.{IsOf}
 use Rattle.sm_rules.proofs.Kept.{of_start}
-use Rattle.sm_check.specs.Replays.{cut, ReplaysTo, EndsIn, IsRefusedPiece, FailsNext, FailsAt}
+use Rattle.sm_check.specs.Replays.{cut, IsRefusedPiece, FailsNext, FailsAt}
 use Rattle.sm_check.specs.declared.refusal.CheckRefusal.{CheckRefusal}
 use Rattle.sm_check.specs.declared.refusal.CheckRefusal.TheVariants.{Refused, ReadFault, LogTooLong, OutOfMemory}
 use Rattle.sm_check.specs.Checks.{Proves, OfFile, IsFeedCause, IsCheckCause}
-use Rattle.sm_check.specs.Feeds.{Fed, HasNoEnd, IsPiece, IsFront, Readies}
+use Rattle.sm_check.specs.Feeds.{Fed, IsPiece, IsFront, Readies}
 use Rattle.sm_check.specs.Readings.{Sight, first_sight, IsAt, IsAtEnd, IsApplied, IsApplyCause, unread}
 use Rattle.sm_check.proofs.Cutting.{cut_piece, cut_last, text_has_end, text_some}
 use Rattle.sm_check.proofs.Truths.{log_is_true, log_is_true_on}

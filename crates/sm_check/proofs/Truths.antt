@@ -1,5 +1,5 @@
 -- What allowed lines come to: what is sound, and which verdict is true.
-use Rattle.std.proofs.Common.{◌≡◌, ℕ, Bool, true, List, [], ◌∷◌, Option, Some, None, refl, sym, ◌∙◌, subst}
+use Rattle.std.proofs.Common.{◌≡◌, ℕ, Bool, true, List, [], ◌∷◌, Option, Some, None, refl, subst}
 use Rattle.std.specs.Prelude.{All}
 use Rattle.std.proofs.lemmas.List.Elements.{All-head, All-tail, All-cons, All-nil}
 use Rattle.sm_flat.specs.Models.{FlatModel}
@@ -11,7 +11,7 @@ use Rattle.sm_step.specs.Verdicts.{IsTrueOf}
 use Rattle.sm_rules.specs.States.{State}
 use Rattle.sm_rules.specs.Trees.{IsRefuted}
 use Rattle.sm_rules.specs.Laws.{Allowed, LawfulVerdict}
-use Rattle.sm_rules.specs.Steps.{after, start, Replays}
+use Rattle.sm_rules.specs.Transitions.{after, start, Replays}
 use Rattle.sm_rules.specs.Sound.{IsOf, Sound, NamesWithin, IsTrueOn, named}
 use Rattle.sm_rules.proofs.Kept.{of_after}
 use Rattle.sm_rules.proofs.Keeping.{sound_after, sound_start, verdict_is_true, refuted_means}

@@ -6,7 +6,7 @@ use Rattle.sm_step.specs.Text.{text_of}
 use Rattle.sm_step.specs.Grammar.{IsLine}
 use Rattle.sm_rules.specs.States.{State}
 use Rattle.sm_rules.specs.Laws.{Allowed}
-use Rattle.sm_rules.specs.Steps.{start, after, Replays}
+use Rattle.sm_rules.specs.Transitions.{start, after, Replays}
 use Rattle.sm_rules.specs.Sound.{IsOf}
 use Rattle.sm_check.specs.declared.refusal.CheckRefusal.{CheckRefusal}
 use Rattle.sm_check.specs.declared.refusal.CheckRefusal.TheVariants.{Refused, OutOfMemory}

@@ -6,10 +6,9 @@ use Rattle.sm_step.specs.declared.verdict.Verdict.{Verdict}
 use Rattle.sm_step.specs.Text.{text_of}
 use Rattle.sm_step.specs.Grammar.{IsLine}
 use Rattle.sm_rules.specs.declared.cause.Cause.{Cause}
-use Rattle.sm_rules.specs.declared.cause.Cause.TheVariants.{Grammar, Order, Law, End}
-use Rattle.sm_rules.specs.declared.cause.Cause.TheVariants as cause
+use Rattle.sm_rules.specs.declared.cause.Cause.TheVariants.{Grammar, End}
 use Rattle.sm_rules.specs.States.{State}
-use Rattle.sm_rules.specs.Steps.{start, Replays, IsRefusedFor}
+use Rattle.sm_rules.specs.Transitions.{start, Replays, IsRefusedFor}
 
 -- a byte before the first of these pieces
 abbrev pub joined : ℕ → List (List ℕ) → List (List ℕ)

@@ -1,7 +1,6 @@
 -- The goals of a model are over the variables of its stores.
-use Rattle.std.proofs.Common.{◌≡◌, ℕ, ◌<◌, List, length}
-use Rattle.std.specs.Prelude.{All, ℤ}
-use Rattle.sm_flat.specs.declared.goal.Goal.{Goal}
+use Rattle.std.proofs.Common.{◌≡◌, ℕ, length}
+use Rattle.std.specs.Prelude.{All}
 use Rattle.sm_flat.specs.Limits.{IsFlat}
 use Rattle.sm_flat.specs.Models.{FlatModel}
 use Rattle.sm_rules.specs.Objectives.{IsGoalOver}

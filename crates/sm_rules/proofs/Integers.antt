@@ -3,7 +3,7 @@ use Rattle.std.proofs.Common.{◌≡◌, ℕ, zero, suc, refl, arith, sym, ap, �
 use Rattle.std.specs.Prelude.{ℤ, pos, negsuc, ◌+ℤ◌, ◌*ℤ◌, neg_ℤ, ◌<ℤ◌, ◌≤ℤ◌}
 use Rattle.std.proofs.lemmas.Int.{ints, by_lt_z}
 use Rattle.std.proofs.Math.IntN.{*ℤ_comm, *ℤ-zero}
-use Rattle.sm_frac.proofs.IntRing.{products, *ℤ-+ℤ, +ℤ-*ℤ, *ℤ_assoc, *ℤ_right_comm}
+use Rattle.sm_frac.proofs.IntRing.{+ℤ-*ℤ}
 
 mul-step : (a : ℤ) (n : ℕ) → a *ℤ pos (suc n) ≡ a *ℤ pos n +ℤ a
 mul-step a n = omega (arith, ints)

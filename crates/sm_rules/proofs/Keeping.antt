@@ -1,36 +1,28 @@
 -- Each allowed line keeps Sound, and an allowed verdict of a sound state is true.
-use Rattle.std.proofs.Common.{◌≡◌, ℕ, zero, suc, ◌<◌, ◌⊎◌, Bool, true, false, cond, Option, Some, None, List, [], ◌∷◌, length, map, get_or, refl, sym, ap, subst, ◌∙◌, arith, inl, inr}
-use Rattle.std.specs.Prelude.{ℤ, pos, ◌+ℤ◌, ◌*ℤ◌, ◌<ℤ◌, ◌≤ℤ◌, All, IfSome, IsSome, MatchOption, ◌==◌, slice_get, unsigned_abs}
-use Rattle.std.proofs.lemmas.Int.{ints, by_lt_z}
+use Rattle.std.proofs.Common.{◌≡◌, ℕ, ◌<◌, Bool, true, false, cond, Option, Some, None, List, [], ◌∷◌, length, map, get_or, refl, subst, ◌∙◌, arith, inl, inr}
+use Rattle.std.specs.Ordering.{int_eq}
+use Rattle.std.specs.Prelude.{ℤ, pos, ◌*ℤ◌, ◌<ℤ◌, ◌≤ℤ◌, All, IfSome, IsSome, MatchOption, ◌==◌, unsigned_abs}
+use Rattle.std.proofs.lemmas.Int.{ints}
 use Rattle.std.proofs.lemmas.Bool.{cases_lt}
-use Rattle.std.proofs.lemmas.List.{get_or_past, length-set}
-use Rattle.std.proofs.lemmas.List.Elements.{All-head, All-tail}
-use Rattle.std.proofs.Math.IntN.{*ℤ_comm, *ℤ-zero}
+use Rattle.std.proofs.lemmas.List.{get_or_past}
+use Rattle.std.proofs.lemmas.List.Elements.{All-nil, All-head, All-tail}
 use Rattle.sm_frac.specs.Rational.{fraction, ◌<ℚ◌}
-use Rattle.sm_frac.proofs.IntRing.{*ℤ_assoc, +ℤ-*ℤ, cancel_above}
 use Rattle.sm_frac.proofs.Order.{le_from_lt, lt_le_trans, le_equal, le_lt_trans}
-use Rattle.sm_frac.specs.declared.fraction.Frac.{Frac}
 use Rattle.sm_flat.specs.declared.goal.Goal.{Goal}
-use Rattle.sm_flat.specs.declared.form.Constraint.{Constraint}
 use Rattle.sm_flat.specs.declared.form.Form.{Form}
-use Rattle.sm_flat.specs.declared.form.Form.TheVariants as form
-use Rattle.sm_kinds.specs.declared.linear.Cmp.{Cmp}
-use Rattle.sm_kinds.specs.declared.linear.Cmp.TheVariants.{AtMost, AtLeast, Equal}
 use Rattle.sm_kinds.specs.declared.literal.Literal.{Literal}
 use Rattle.sm_kinds.specs.declared.var.VarKind.{VarKind}
-use Rattle.sm_kinds.specs.declared.var.VarKind.TheVariants.{Set}
+use Rattle.sm_kinds.specs.declared.var.VarKind.TheVariants.{Set, Int, Real}
 use Rattle.sm_flat.specs.Models.{FlatModel}
-use Rattle.sm_kinds.specs.Vars.{LiesIn}
+use Rattle.sm_kinds.specs.Vars.{IsBetween, LiesIn}
 use Rattle.sm_kinds.specs.Points.{Point}
 use Rattle.sm_flat.specs.Assignments.{point, point_of}
 use Rattle.sm_flat.specs.Assignments.{Numbers}
-use Rattle.sm_kinds.specs.Sums.{sum_at}
-use Rattle.sm_kinds.specs.Linear.{Compares, SatLinear}
 use Rattle.sm_flat.specs.Forms.{Sat}
 use Rattle.sm_flat.specs.Goals.{cost, IsBetterBy, IsBetter, HasValues}
-use Rattle.sm_flat.specs.Solutions.{Fits, Solves, SolvesOn, IsOptimum, HasNoSolution}
-use Rattle.sm_flat.specs.Limits.{IsFlat, IsGoal, AreGoals}
-use Rattle.sm_store.specs.Stores.{Extent, no_extent, extent_at, In, narrow, declared, fixed_value, fixed_at, fixed_point, least_of, IsStoreOf}
+use Rattle.sm_flat.specs.Solutions.{Fits, Solves, SolvesOn, IsOptimum}
+use Rattle.sm_flat.specs.Limits.{IsFlat}
+use Rattle.sm_store.specs.Stores.{Extent, no_extent, extent_at, In, narrow, declared, fixed_value, one_end, fixed_at, fixed_point, IsStoreOf}
 use Rattle.sm_store.proofs.Parts.{store_declared, store_narrowed, in_declared}
 use Rattle.sm_step.specs.declared.line.Line.{Line}
 use Rattle.sm_step.specs.declared.line.Line.TheVariants as line
@@ -38,19 +30,19 @@ use Rattle.sm_step.specs.declared.verdict.Verdict.{Verdict}
 use Rattle.sm_step.specs.declared.verdict.Verdict.TheVariants.{Optimal, Satisfied, Infeasible, Limit, Range}
 use Rattle.sm_step.specs.Verdicts.{parts_of, IsTrueOf}
 use Rattle.sm_rules.specs.declared.node.Status.{Status}
-use Rattle.sm_rules.specs.declared.node.Status.TheVariants.{Open, Half, Split}
-use Rattle.sm_rules.specs.Objectives.{costs, levels}
-use Rattle.sm_rules.specs.Floors.{EndsNode, AreFloors, numbers_of}
-use Rattle.sm_rules.specs.Nodes.{NodeView, no_node, CoversPart, Covers, TakesChild, LawfulChild}
-use Rattle.sm_rules.specs.Trees.{Tree, node_at, focus_of, close_focus, TreeSound, root_of, IsRefuted}
+use Rattle.sm_rules.specs.declared.node.Status.TheVariants.{Open}
+use Rattle.sm_rules.specs.Objectives.{costs}
+use Rattle.sm_rules.specs.Floors.{AreFloors, numbers_of}
+use Rattle.sm_rules.specs.Nodes.{NodeView, CoversPart, Covers, TakesChild, LawfulChild}
+use Rattle.sm_rules.specs.Trees.{node_at, focus_of, close_focus, IsRefuted}
 use Rattle.sm_rules.specs.Violations.{AreFixed, IsViolated}
 use Rattle.sm_kinds.proofs.SameValues.{EqualAt, EqualAt-whole}
 use Rattle.sm_flat.proofs.Meaning.{same_values, each_var}
 use Rattle.sm_rules.specs.States.{State}
-use Rattle.sm_rules.specs.Laws.{BeatsBest, IsNextBest, LawfulVerdict, AsksForAny, Allowed}
-use Rattle.sm_rules.specs.Steps.{after, start}
+use Rattle.sm_rules.specs.Laws.{BeatsBest, IsNextBest, LawfulVerdict, Allowed}
+use Rattle.sm_rules.specs.Cuts.{SatisfiesLemma, SatisfiesCut}
+use Rattle.sm_rules.specs.Transitions.{with_tree, after, start}
 use Rattle.sm_rules.specs.Sound.{Live, Sound, named, IsNodeOf, IsOf, IsTrueOn}
-use Rattle.sm_rules.proofs.Integers.{mul-lt}
 use Rattle.sm_rules.proofs.LeastCosts.{AreOrdered}
 use Rattle.sm_rules.proofs.Levels.{fraction_lt, fraction_equal, none_better}
 use Rattle.sm_rules.proofs.Moves.{node_low, close_keeps, open_keeps, root_sound, refuted_none, fewer_keeps}
@@ -96,11 +88,29 @@ in_range_of store i some = elim (cases_lt i (length store)) [
       absurd (cc)
 ]
 
+-- between ends that are the same there is one number
+same_ends : (low high n d : ℤ) → IsSome (cond (int_eq low high) (Some low) None) → (low *ℤ d) ≤ℤ n → n ≤ℤ (high *ℤ d) → n ≡ low *ℤ d
+same_ends low high n d some from to = cases (int_eq low high) refl some
+  where
+    cases : (b : Bool) → int_eq low high ≡ b → IsSome (cond b (Some low) None) → n ≡ low *ℤ d
+    cases true e some =
+        let same : low ≡ high = grind (arith, ints) in
+        let below : n ≤ℤ (low *ℤ d) = rw same to in
+        omega (arith, ints, from, below)
+    cases false e some = absurd (cc)
+
+fixed_range : (vs : List ℤ) (n d : ℤ) → IsSome (one_end vs) → IsBetween n d vs → n ≡ get_or vs 0 (pos 0) *ℤ d
+fixed_range [] n d some h = absurd h
+fixed_range (v ∷ []) n d some h = absurd h
+fixed_range (low ∷ high ∷ vs) n d some h = same_ends low high n d some h.0 h.1
+
 fixed_is : (kind : VarKind) (vs : List ℤ) (n d : ℤ) → IsSome (fixed_value kind vs) → LiesIn kind vs n d → n ≡ get_or vs 0 (pos 0) *ℤ d
 fixed_is Set [] n d some h = absurd h
 fixed_is Set (v ∷ []) n d some (inl here) = here
 fixed_is Set (v ∷ []) n d some (inr there) = absurd there
 fixed_is Set (v ∷ w ∷ vs) n d some h = absurd (cc)
+fixed_is Int vs n d some h = fixed_range vs n d some h.0
+fixed_is Real vs n d some h = absurd (cc)
 
 -- where all variables are fixed, what lies in the store has their values, whatever its denominator
 sat_fixed : (f : Form) (a : Point) (store : List Extent) → pos 0 <ℤ a.denominator → In a store → AreFixed store f → Sat f a → Sat f (fixed_point store)
@@ -137,8 +147,13 @@ module _ (m : FlatModel) (s : ℕ → Bool) (state : State) (of : IsOf m state) 
   lies_covered : (a : Point) (status : Status) (store : List Extent) → status ≡ Open → CoversPart a store status → In a store
   lies_covered a status store e h = rw e at h
 
-  closed : ((a : Point) → Live m s state.best a → Covers a (focus_of state.main) → ⊥) → Sound m s (record state { main = close_focus state.main })
-  closed none = record { best = sound.best; tree = close_keeps m (Live m s state.best) state.main none sound.tree }
+  closed : ((a : Point) → Live m s state.best a → Covers a (focus_of state.main) → ⊥) → Sound m s (with_tree state (close_focus state.main))
+  closed none = record {
+    best = sound.best;
+    tree = close_keeps m (Live m s state.best) state.main none sound.tree;
+    lemmas = sound.lemmas;
+    cuts = sound.cuts;
+  }
 
   violated : (k : ℕ) → (focus_of state.main).status ≡ Open → IsViolated m (focus_of state.main).store k → s k ≡ true → Sound m s (after m state (line.Violated k))
   violated k is_open bad named =
@@ -146,9 +161,11 @@ module _ (m : FlatModel) (s : ℕ → Bool) (state : State) (of : IsOf m state) 
       let lies = lies_covered a (focus_of state.main).status (focus_of state.main).store is_open h in
       bad.fails (sat_fixed bad.constraint.form a (focus_of state.main).store live.solves.fits.positive lies bad.fixed (live.solves.satisfies k bad.constraint named bad.is)))
 
-  beaten : BeatsBest m (focus_of state.main).floors state.best → Sound m s (after m state line.CloseFloor)
-  beaten beats =
-      closed (λ a live h. none a state.best beats sound.best live.better live.solves.fits (node_low m a state.main.nodes state.main.focus (sound.tree.floors a live) h))
+  beaten : (focus_of state.main).status ≡ Open → BeatsBest m (focus_of state.main).floors state.best → Sound m s (after m state line.CloseFloor)
+  beaten is_open beats =
+      closed (λ a live h.
+      let lies = lies_covered a (focus_of state.main).status (focus_of state.main).store is_open h in
+      none a state.best beats sound.best live.better live.solves.fits (node_low m a state.main.nodes state.main.focus (sound.tree.floors a live) lies))
     where
       none : (a : Point) (best : Option Numbers) → BeatsBest m (focus_of state.main).floors best → IfSome best (λ b. Solves m (point_of b)) → IfSome best (λ b. IsBetter m a (point_of b)) → Fits m a → AreFloors (numbers_of (focus_of state.main).floors) (costs m a) → ⊥
       none a None beats solves better fits low = beats
@@ -163,6 +180,8 @@ module _ (m : FlatModel) (s : ℕ → Bool) (state : State) (of : IsOf m state) 
       record {
         best = sound.best;
         tree = open_keeps m (Live m s state.best) state.main parent l (goals_known m (narrow old.store l) of.flat store.wide) (ordered_of m (narrow old.store l) store) (λ a live. live.solves.fits.positive) takes law sound.tree;
+        lemmas = sound.lemmas;
+        cuts = sound.cuts;
       }
 
   -- a better solution leaves fewer assignments alive
@@ -177,16 +196,18 @@ module _ (m : FlatModel) (s : ℕ → Bool) (state : State) (of : IsOf m state) 
   solved d vs next = record {
     best = next.solves;
     tree = fewer_keeps m (Live m s state.best) (Live m s (Some (record { denominator = d; values = vs }))) state.main.nodes (λ a live. live_before (point d vs) a next.solves next.better live.solves live.better) sound.tree;
+    lemmas = λ a live. sound.lemmas a (live_before (point d vs) a next.solves next.better live.solves live.better);
+    cuts = sound.cuts;
   }
 
 -- each allowed line keeps Sound, for each test that passes the constraints that it names
 pub sound_after : (m : FlatModel) (s : ℕ → Bool) (state : State) (l : Line) → IsOf m state → Allowed m state l → All (λ k. s k ≡ true) (named l) → Sound m s state → Sound m s (after m state l)
-sound_after m s state (line.Header version) of ok within sound = record { best = sound.best; tree = sound.tree }
+sound_after m s state (line.Header version) of ok within sound = record { best = sound.best; tree = sound.tree; lemmas = sound.lemmas; cuts = sound.cuts }
 sound_after m s state (line.Node id parent l) of ok within sound = opened m s state of sound parent l ok.due.order.takes ok.law id
-sound_after m s state line.CloseFloor of ok within sound = beaten m s state of sound ok.law
+sound_after m s state line.CloseFloor of ok within sound = beaten m s state of sound ok.due.order.is_open ok.law
 sound_after m s state (line.Violated k) of ok within sound = violated m s state of sound k ok.due.order.is_open ok.law (All-head (λ k. s k ≡ true) k [] within)
 sound_after m s state (line.Sol d vs) of ok within sound = solved m s state of sound d vs ok.law
-sound_after m s state (line.Verdict v) of ok within sound = record { best = sound.best; tree = sound.tree }
+sound_after m s state (line.Verdict v) of ok within sound = record { best = sound.best; tree = sound.tree; lemmas = sound.lemmas; cuts = sound.cuts }
 sound_after m s state _ of ok within sound = absurd ok.law
 
 pub sound_start : (m : FlatModel) (s : ℕ → Bool) → IsFlat m → Sound m s (start m)
@@ -195,6 +216,8 @@ sound_start m s flat =
     record {
       best = tt;
       tree = root_sound m (Live m s None) (declared m.vars) (goals_known m (declared m.vars) flat store.wide) (ordered_of m (declared m.vars) store) (λ a live. live.solves.fits.positive) (λ a live. in_declared m a live.solves.fits);
+      lemmas = λ a live. All-nil (SatisfiesLemma a);
+      cuts = λ a on. All-nil (SatisfiesCut a);
     }
 
 -- ---- verdicts

@@ -1,12 +1,10 @@
 -- What every step keeps of the state: the order of the nodes, that they are of the model, and that nothing refuted is left.
-use Rattle.std.proofs.Common.{◌≡◌, ◌≢◌, ℕ, zero, suc, ◌+◌, ◌<◌, ◌≤◌, Bool, true, false, cond, ◌&&◌, not, List, [], ◌∷◌, ◌++◌, length, map, get_or, refl, arith, ap, sym, ◌∙◌, Some}
-use Rattle.std.specs.Prelude.{ℤ, pos, ◌*ℤ◌, ◌<ℤ◌, int_lt, ◌==◌, All, AllPairs}
-use Rattle.std.specs.List.{list_all}
+use Rattle.std.proofs.Common.{◌≡◌, ℕ, suc, ◌+◌, ◌<◌, Bool, true, false, cond, ◌&&◌, not, List, [], ◌∷◌, ◌++◌, length, refl, arith, ap, sym, ◌∙◌}
+use Rattle.std.specs.Prelude.{ℤ, pos, ◌*ℤ◌, ◌<ℤ◌, int_lt, ◌==◌, All}
 use Rattle.std.proofs.lemmas.Int.{ints}
 use Rattle.std.proofs.lemmas.Bool.Decides.{nat_tests}
 use Rattle.std.proofs.lemmas.List.{length-map}
 use Rattle.std.proofs.lemmas.List.Elements.{All-nil, All-cons, All-head, All-tail, All-push, All-map, All-weaker}
-use Rattle.std.proofs.lemmas.List.Kept.{AllPairs-cons}
 use Rattle.std.proofs.lemmas.List.Quantifiers.{all_pairs_push}
 use Rattle.std.proofs.lemmas.List.Folds.{list_all-append}
 use Rattle.sm_kinds.specs.declared.literal.Literal.{Literal}
@@ -19,76 +17,24 @@ use Rattle.sm_step.specs.declared.line.Line.{Line}
 use Rattle.sm_step.specs.declared.line.Line.TheVariants as line
 use Rattle.sm_rules.specs.Floors.{greater, raised}
 use Rattle.sm_rules.specs.Objectives.{least_costs, least_cost}
-use Rattle.sm_rules.specs.Nodes.{NodeView, no_node, is_split, with_child, TakesChild}
-use Rattle.sm_rules.specs.Trees.{Tree, node_at, set_node, without_node, has_no_child, is_done, pruned, close_focus, open_child, child_of, IsNumbered}
+use Rattle.sm_rules.specs.Nodes.{NodeView, is_split, with_child, TakesChild}
+use Rattle.sm_rules.specs.Trees.{Tree, node_at, set_node, without_node, has_no_child, is_done, close_focus, open_child, child_of, IsNumbered}
 use Rattle.sm_rules.specs.States.{State}
 use Rattle.sm_rules.specs.Laws.{Allowed}
-use Rattle.sm_rules.specs.Steps.{after, start}
-use Rattle.sm_rules.specs.Sound.{IsNodeOf, IsBestOf, IsOf}
-use Rattle.sm_rules.specs.Places.{AreRising, IsPlace, with_child_at}
-use Rattle.sm_rules.proofs.Places.{rising_tail, rising_head, node_at_place, set_node_place}
+use Rattle.sm_rules.specs.Transitions.{with_tree, after, start}
+use Rattle.sm_rules.specs.Sound.{IsNodeOf, IsOf}
+use Rattle.sm_rules.specs.Places.{AreRising}
+use Rattle.sm_rules.proofs.NodeLists.{all_set, all_pruned, all_without, pairs_set, pairs_pruned, pairs_without}
 use Rattle.sm_rules.proofs.Pruning.{AllNeeded, needed_from_kept, kept_from_needed, pruned-pruned}
 
--- ---- one node is changed
-
-all_set : (P : NodeView → Type 0) (ns : List NodeView) (k : ℕ) (new : NodeView) → (P (node_at ns k) → P new) → All P ns → All P (set_node ns k new)
-all_set P [] k new f h = h
-all_set P (n ∷ ns) k new f h = by_test (n.number == k) f (All-head P n ns h) (All-tail P n ns h) (λ g. all_set P ns k new g (All-tail P n ns h))
-  where
-    by_test : (b : Bool) → (P (cond b n (node_at ns k)) → P new) → P n → All P ns → ((P (node_at ns k) → P new) → All P (set_node ns k new)) → All P (cond b (new ∷ ns) (n ∷ set_node ns k new))
-    by_test true f here there rest = All-cons P new ns (f here) there
-    by_test false f here there rest = All-cons P n (set_node ns k new) here (rest f)
-
-rising_cons : (n : NodeView) (ns : List NodeView) → All (λ (k : NodeView). n.number < k.number) ns → AreRising ns → AreRising (n ∷ ns)
-rising_cons n ns h rest = AllPairs-cons (λ (n k : NodeView). n.number < k.number) n ns h rest
-
 rising_set : (ns : List NodeView) (k : ℕ) (new : NodeView) → new.number ≡ (node_at ns k).number → AreRising ns → AreRising (set_node ns k new)
-rising_set [] k new e h = h
-rising_set (n ∷ ns) k new e h = by_test (n.number == k) e (rising_head n ns h) (rising_tail n ns h) (λ g. rising_set ns k new g (rising_tail n ns h))
-  where
-    by_test : (b : Bool) → new.number ≡ (cond b n (node_at ns k)).number → All (λ (m : NodeView). n.number < m.number) ns → AreRising ns → (new.number ≡ (node_at ns k).number → AreRising (set_node ns k new)) → AreRising (cond b (new ∷ ns) (n ∷ set_node ns k new))
-    by_test true e above there rest = rising_cons new ns (rw e above) there
-    by_test false e above there rest = rising_cons n (set_node ns k new) (all_set (λ (m : NodeView). n.number < m.number) ns k new (λ h. rw e h) above) (rest e)
-
--- ---- nodes are dropped
-
-all_pruned : (P : NodeView → Type 0) (ns : List NodeView) → All P ns → All P (pruned ns)
-all_pruned P [] h = h
-all_pruned P (n ∷ ns) h = by_test (is_done n (pruned ns)) (All-head P n ns h) (all_pruned P ns (All-tail P n ns h))
-  where
-    by_test : (b : Bool) → P n → All P (pruned ns) → All P (cond b (pruned ns) (n ∷ pruned ns))
-    by_test true here there = there
-    by_test false here there = All-cons P n (pruned ns) here there
-
-rising_pruned : (ns : List NodeView) → AreRising ns → AreRising (pruned ns)
-rising_pruned [] h = h
-rising_pruned (n ∷ ns) h = by_test (is_done n (pruned ns)) (all_pruned (λ (m : NodeView). n.number < m.number) ns (rising_head n ns h)) (rising_pruned ns (rising_tail n ns h))
-  where
-    by_test : (b : Bool) → All (λ (m : NodeView). n.number < m.number) (pruned ns) → AreRising (pruned ns) → AreRising (cond b (pruned ns) (n ∷ pruned ns))
-    by_test true above there = there
-    by_test false above there = rising_cons n (pruned ns) above there
-
-all_without : (P : NodeView → Type 0) (ns : List NodeView) (k : ℕ) → All P ns → All P (without_node ns k)
-all_without P [] k h = h
-all_without P (n ∷ ns) k h = by_test (n.number == k) (All-head P n ns h) (All-tail P n ns h) (all_without P ns k (All-tail P n ns h))
-  where
-    by_test : (b : Bool) → P n → All P ns → All P (without_node ns k) → All P (cond b ns (n ∷ without_node ns k))
-    by_test true here there rest = there
-    by_test false here there rest = All-cons P n (without_node ns k) here rest
-
-rising_without : (ns : List NodeView) (k : ℕ) → AreRising ns → AreRising (without_node ns k)
-rising_without [] k h = h
-rising_without (n ∷ ns) k h = by_test (n.number == k) (all_without (λ (m : NodeView). n.number < m.number) ns k (rising_head n ns h)) (rising_tail n ns h) (rising_without ns k (rising_tail n ns h))
-  where
-    by_test : (b : Bool) → All (λ (m : NodeView). n.number < m.number) (without_node ns k) → AreRising ns → AreRising (without_node ns k) → AreRising (cond b ns (n ∷ without_node ns k))
-    by_test true above there rest = there
-    by_test false above there rest = rising_cons n (without_node ns k) above rest
+rising_set ns k new e h = pairs_set (λ (n k : NodeView). n.number < k.number) ns k new (λ n lt. rw e lt) (λ n lt. rw e lt) h
 
 -- ---- the order of the nodes
 
 pub numbered_closed : (t : Tree) → IsNumbered t → IsNumbered (close_focus t)
 numbered_closed t h = record {
-  rising = rising_pruned (without_node t.nodes t.focus) (rising_without t.nodes t.focus h.rising);
+  rising = pairs_pruned (λ (n k : NodeView). n.number < k.number) (without_node t.nodes t.focus) (pairs_without (λ (n k : NodeView). n.number < k.number) t.nodes t.focus h.rising);
   below = all_pruned (λ (n : NodeView). n.number < t.count) (without_node t.nodes t.focus) (all_without (λ (n : NodeView). n.number < t.count) t.nodes t.focus h.below);
 }
 
@@ -102,10 +48,6 @@ numbered_opened m t parent l h =
       rising = all_pairs_push (λ (n k : NodeView). n.number < k.number) set (child_of m t.count old l) (rising_set t.nodes parent new refl h.rising) below;
       below = All-push (λ (n : NodeView). n.number < t.count + 1) set (child_of m t.count old l) (All-weaker (λ (n : NodeView). n.number < t.count) (λ (n : NodeView). n.number < t.count + 1) (λ n lt. omega arith) set below) (omega arith);
     }
-
--- the tree with a child under the node at a place
-pub opened_is : (m : FlatModel) (t : Tree) (place parent number : ℕ) (l : Literal) → AreRising t.nodes → IsPlace t.nodes place parent → number ≡ t.count → open_child m t parent l ≡ record { nodes = with_child_at m t.nodes place number l; count = number + 1; focus = number }
-opened_is m t place parent number l rising at e = rw (e, node_at_place t.nodes place parent rising at, set_node_place t.nodes place parent _ rising at) refl
 
 -- ---- nothing refuted is left
 
@@ -200,7 +142,7 @@ child_is_of m number parent l h =
 
 -- ---- the state
 
-of_opened : (m : FlatModel) (s : State) (parent : ℕ) (l : Literal) → IsOf m s → TakesChild (node_at s.main.nodes parent).status → IsOf m (record s { main = open_child m s.main parent l })
+of_opened : (m : FlatModel) (s : State) (parent : ℕ) (l : Literal) → IsOf m s → TakesChild (node_at s.main.nodes parent).status → IsOf m (with_tree s (open_child m s.main parent l))
 of_opened m s parent l of takes =
     let nodes = s.main.nodes in
     let old = node_at nodes parent in
@@ -214,7 +156,7 @@ of_opened m s parent l of takes =
       best = of.best;
     }
 
-of_closed : (m : FlatModel) (s : State) → IsOf m s → IsOf m (record s { main = close_focus s.main })
+of_closed : (m : FlatModel) (s : State) → IsOf m s → IsOf m (with_tree s (close_focus s.main))
 of_closed m s of = record {
   flat = of.flat;
   nodes = all_pruned (λ (n : NodeView). IsNodeOf m n) (without_node s.main.nodes s.main.focus) (all_without (λ (n : NodeView). IsNodeOf m n) s.main.nodes s.main.focus of.nodes);
@@ -230,7 +172,7 @@ of_after m s line.CloseFloor of ok = of_closed m s of
 of_after m s (line.Violated k) of ok = of_closed m s of
 of_after m s (line.Sol denominator values) of ok = record { flat = of.flat; nodes = of.nodes; numbered = of.numbered; kept = of.kept; best = record { fit = ok.law.fit; each = ok.law.each } }
 of_after m s (line.Verdict v) of ok = record { flat = of.flat; nodes = of.nodes; numbered = of.numbered; kept = of.kept; best = of.best }
-of_after m s _ of ok = of
+of_after m s _ of ok = record { flat = of.flat; nodes = of.nodes; numbered = of.numbered; kept = of.kept; best = of.best }
 
 pub of_start : (m : FlatModel) → IsFlat m → IsOf m (start m)
 of_start m flat =

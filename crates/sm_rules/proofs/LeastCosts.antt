@@ -1,26 +1,24 @@
 -- No assignment in a store costs less than the least cost over its boxes.
-use Rattle.std.proofs.Common.{◌≡◌, ℕ, zero, suc, ◌+◌, ◌-◌, ◌<◌, Bool, true, false, cond, List, [], ◌∷◌, length, get_or, map, refl, arith, sym, ap, ◌∙◌, inl, inr}
-use Rattle.std.specs.Prelude.{ℤ, pos, negsuc, ◌+ℤ◌, ◌*ℤ◌, neg_ℤ, ◌<ℤ◌, ◌≤ℤ◌, int_le, All, AllPairs, unsigned_abs}
+use Rattle.std.proofs.Common.{◌≡◌, ℕ, suc, ◌-◌, ◌<◌, Bool, true, false, cond, List, [], ◌∷◌, length, get_or, refl, arith, sym, ap, ◌∙◌, inl, inr}
+use Rattle.std.specs.Prelude.{ℤ, pos, ◌+ℤ◌, ◌*ℤ◌, neg_ℤ, ◌<ℤ◌, ◌≤ℤ◌, int_le, All, AllPairs, unsigned_abs}
 use Rattle.std.proofs.lemmas.Int.{ints}
-use Rattle.std.proofs.lemmas.Bool.{cases_lt, cases_eq}
-use Rattle.std.proofs.lemmas.List.{get_or_default}
+use Rattle.std.proofs.lemmas.Bool.{cases_eq}
 use Rattle.std.proofs.lemmas.List.Elements.{All-head, All-tail}
 use Rattle.std.proofs.Math.IntN.{*ℤ_comm, *ℤ-zero}
-use Rattle.sm_frac.proofs.IntRing.{*ℤ_assoc, *ℤ_right_comm, *ℤ-+ℤ, +ℤ-*ℤ, pos_abs}
-use Rattle.sm_frac.specs.Rational.{ℚ, ◌≤ℚ◌, fraction, whole_ℚ}
+use Rattle.sm_frac.proofs.IntRing.{*ℤ_assoc, +ℤ-*ℤ, pos_abs}
+use Rattle.sm_frac.specs.Rational.{◌≤ℚ◌, fraction}
 use Rattle.sm_frac.proofs.Order.{fraction_le_cross}
 use Rattle.sm_flat.specs.declared.goal.Goal.{Goal}
 use Rattle.sm_flat.specs.declared.goal.Sense.{Sense}
 use Rattle.sm_flat.specs.declared.goal.Sense.TheVariants.{Minimise, Maximise, Satisfy}
 use Rattle.sm_kinds.specs.declared.var.VarKind.{VarKind}
-use Rattle.sm_kinds.specs.declared.var.VarKind.TheVariants.{Set}
-use Rattle.sm_flat.specs.Models.{FlatModel}
-use Rattle.sm_kinds.specs.Vars.{IsOneOf, LiesIn}
+use Rattle.sm_kinds.specs.declared.var.VarKind.TheVariants.{Set, Int, Real}
+use Rattle.sm_kinds.specs.Vars.{IsOneOf, IsBetween as LiesBetween, LiesIn}
 use Rattle.sm_kinds.specs.Points.{Point}
 use Rattle.sm_kinds.specs.Sums.{sum_at}
-use Rattle.sm_flat.specs.Goals.{minimised, worth, cost}
-use Rattle.sm_store.specs.Stores.{Extent, extent_at, Lies, In, IsOrdered, least_of, greatest_of}
-use Rattle.sm_rules.specs.Floors.{AreFloors, number_of, numbers_of}
+use Rattle.sm_flat.specs.Goals.{minimised, cost}
+use Rattle.sm_store.specs.Stores.{Extent, extent_at, In, IsOrdered, AreEnds, least_of, greatest_of}
+use Rattle.sm_rules.specs.Floors.{AreFloors, numbers_of}
 use Rattle.sm_rules.specs.Objectives.{costs_by, least_product, least_sum, least_cost, least_costs}
 use Rattle.sm_rules.proofs.Integers.{mul-le, mul-neg}
 
@@ -55,12 +53,20 @@ pub record IsBetween (low n high d : ℤ) : Type 0 where
   pub least : (low *ℤ d) ≤ℤ n
   pub most : n ≤ℤ (high *ℤ d)
 
-pub between : (kind : VarKind) (vs : List ℤ) (n d : ℤ) → pos 0 <ℤ d → IsOrdered vs → LiesIn kind vs n d → IsBetween (get_or vs 0 (pos 0)) n (get_or vs (length vs - 1) (pos 0)) d
+between_ends : (vs : List ℤ) (n d : ℤ) → AreEnds vs → LiesBetween n d vs → IsBetween (get_or vs 0 (pos 0)) n (get_or vs (length vs - 1) (pos 0)) d
+between_ends [] n d ends h = absurd h
+between_ends (v ∷ []) n d ends h = absurd h
+between_ends (low ∷ high ∷ []) n d ends h = record { least = h.0; most = h.1 }
+between_ends (low ∷ high ∷ v ∷ vs) n d ends h = absurd ends
+
+pub between : (kind : VarKind) (vs : List ℤ) (n d : ℤ) → pos 0 <ℤ d → IsOrdered kind vs → LiesIn kind vs n d → IsBetween (get_or vs 0 (pos 0)) n (get_or vs (length vs - 1) (pos 0)) d
 between Set vs n d p ordered h =
     let at = one_of_at n d vs h in
-    let low = mul-le _ _ d (omega (arith, ints)) (low_le vs ordered.rising at.place at.within) in
-    let high = mul-le _ _ d (omega (arith, ints)) (le_high vs ordered.rising at.place at.within) in
+    let low = mul-le _ _ d (omega (arith, ints)) (low_le vs ordered.order at.place at.within) in
+    let high = mul-le _ _ d (omega (arith, ints)) (le_high vs ordered.order at.place at.within) in
     record { least = omega (arith, ints, low, at.is); most = omega (arith, ints, high, at.is) }
+between Int vs n d p ordered h = between_ends vs n d ordered.order h.0
+between Real vs n d p ordered h = between_ends vs n d ordered.order h
 
 -- ---- products and sums
 
@@ -101,7 +107,7 @@ minimised-zero Satisfy = refl
 
 -- a store's domains are ordered
 abbrev pub AreOrdered : List Extent → Type 0
-AreOrdered store = (i : ℕ) → i < length store → IsOrdered (extent_at store i).values
+AreOrdered store = (i : ℕ) → i < length store → IsOrdered (extent_at store i).kind (extent_at store i).values
 
 least_sum-le : (s : Sense) (a : Point) (store : List Extent) (ts : List (ℕ × ℤ)) → pos 0 <ℤ a.denominator → AreOrdered store → In a store → All (λ t. t.0 < length store) ts → (least_sum s store ts *ℤ a.denominator) ≤ℤ (minimised s (sum_at ts a.numerator))
 least_sum-le s a store [] p ordered h known =

@@ -1,27 +1,27 @@
 -- Floors that end a node leave no better assignment in it, and floors that no better one keeps from ending it do.
-use Rattle.std.proofs.Common.{◌≡◌, ℕ, ◌<◌, ◌⊎◌, ◌↔◌, Bool, true, false, List, [], ◌∷◌, length, map, refl, arith, sym, ap, subst, ◌∙◌, inl, inr}
+use Rattle.std.proofs.Common.{◌≡◌, ℕ, ◌<◌, ◌↔◌, Bool, true, false, List, [], ◌∷◌, length, map, refl, arith, sym, ap, ◌∙◌, inl, inr}
 use Rattle.std.specs.Prelude.{ℤ, pos, ◌+ℤ◌, ◌*ℤ◌, neg_ℤ, ◌<ℤ◌, ◌≤ℤ◌, All, unsigned_abs, ◌&&◌}
 use Rattle.std.specs.List.{list_all}
 use Rattle.std.proofs.lemmas.Int.{ints, by_lt_z}
 use Rattle.std.proofs.lemmas.List.Elements.{All-head, All-tail}
 use Rattle.std.proofs.Math.IntN.{*ℤ_comm, *ℤ-zero}
-use Rattle.sm_frac.proofs.IntRing.{*ℤ_assoc, *ℤ_right_comm, +ℤ-*ℤ, pos_abs}
-use Rattle.sm_frac.specs.Rational.{ℚ, ◌-ℚ◌, ◌+ℚ◌, ◌≤ℚ◌, ◌<ℚ◌, one_ℚ, neg_ℚ, whole_ℚ, fraction, fraction_same, neg_ℚ-fraction, is_nonnegative}
+use Rattle.sm_frac.proofs.IntRing.{*ℤ_assoc, +ℤ-*ℤ, pos_abs}
+use Rattle.sm_frac.specs.Rational.{ℚ, ◌-ℚ◌, ◌+ℚ◌, ◌≤ℚ◌, ◌<ℚ◌, one_ℚ, whole_ℚ, fraction, fraction_same, neg_ℚ-fraction, is_nonnegative}
 use Rattle.sm_frac.proofs.OperationLemmas.{fraction_cross}
-use Rattle.sm_frac.proofs.Order.{le_equal, le_trans, le_antisymm, lt_not_le, lt_from_not_le, le_from_lt, lt_le_trans, le_lt_trans, fraction_le_cross}
+use Rattle.sm_frac.proofs.Order.{le_equal, le_trans, le_antisymm, lt_not_le, lt_from_not_le, le_from_lt, fraction_le_cross}
 use Rattle.sm_frac.proofs.CommonDenominator.{fraction_sum, whole_over, whole_le}
 use Rattle.sm_flat.specs.declared.goal.Goal.{Goal}
 use Rattle.sm_flat.specs.declared.goal.Sense.{Sense}
 use Rattle.sm_flat.specs.declared.goal.Sense.TheVariants.{Minimise, Maximise, Satisfy}
 use Rattle.sm_kinds.specs.declared.var.VarKind.{VarKind}
-use Rattle.sm_kinds.specs.declared.var.VarKind.TheVariants.{Set}
+use Rattle.sm_kinds.specs.declared.var.VarKind.TheVariants.{Set, Int, Real}
 use Rattle.sm_flat.specs.Models.{FlatModel}
-use Rattle.sm_kinds.specs.Vars.{IsOneOf, LiesIn, var_at}
+use Rattle.sm_kinds.specs.Vars.{LiesIn, var_at}
 use Rattle.sm_kinds.specs.Points.{Point}
 use Rattle.sm_kinds.specs.Sums.{sum_at}
 use Rattle.sm_flat.specs.Goals.{minimised, worth, cost, IsBetterBy}
 use Rattle.sm_flat.specs.Solutions.{Fits}
-use Rattle.sm_rules.specs.Floors.{Level, Reaches, EndsNode, AreFloors, CostLess, IsWhole, FitsLevel, FitLevels}
+use Rattle.sm_rules.specs.Floors.{Level, Reaches, EndsNode, AreFloors, CostLess, IsWholeNumber, FitsLevel, FitLevels}
 use Rattle.sm_rules.specs.Objectives.{costs_by, is_discrete, is_whole, level_of}
 use Rattle.sm_rules.proofs.Integers.{mul-neg}
 use Rattle.sm_rules.proofs.LeastCosts.{one_of_at}
@@ -64,6 +64,8 @@ pub record IsMultiple (n d : ℤ) : Type 0 where
 
 discrete_whole : (kind : VarKind) (vs : List ℤ) (n d : ℤ) → is_discrete kind ≡ true → LiesIn kind vs n d → IsMultiple n d
 discrete_whole Set vs n d e h = let at = one_of_at n d vs h in record { by = _; is = at.is }
+discrete_whole Int vs n d e h = record { by = h.1.0; is = h.1.1 }
+discrete_whole Real vs n d e h = absurd (cc)
 
 pub both_true : (b c : Bool) → (b && c) ≡ true → (b ≡ true) × (c ≡ true)
 both_true true c e = (refl, e)
@@ -91,7 +93,7 @@ cost_whole m a g fits known e =
     let sum = sum_whole m a g.terms fits known e in
     minimised_multiple g.sense (worth g a) a.denominator (record { by = sum.by +ℤ g.constant; is = rw (sum.is, +ℤ-*ℤ sum.by g.constant a.denominator) refl })
 
-whole_fraction : (n d : ℤ) → pos 0 <ℤ d → IsMultiple n d → IsWhole (fraction n (unsigned_abs d))
+whole_fraction : (n d : ℤ) → pos 0 <ℤ d → IsMultiple n d → IsWholeNumber (fraction n (unsigned_abs d))
 whole_fraction n d p h = record { number = h.by; is = rw h.is (ap (λ (z : ℤ). fraction (h.by *ℤ z) (unsigned_abs d)) (sym (pos_abs d p)) ∙ sym (whole_over h.by (unsigned_abs d) (above d p))) }
 
 fit_levels : (m : FlatModel) (a b : Point) (goals : List Goal) → Fits m a → Fits m b → All (λ (g : Goal). All (λ t. t.0 < length m.vars) g.terms) goals → FitLevels (costs_by goals a) (map (level_of m b) goals)
@@ -111,7 +113,7 @@ one_less : (z : ℤ) → whole_ℚ (z +ℤ neg_ℤ (pos 1)) ≡ whole_ℚ z -ℚ
 one_less z = sym (fraction_sum z (neg_ℤ (pos 1)) 1 (omega arith)) ∙ ap (λ (q : ℚ). whole_ℚ z +ℚ q) (sym (neg_ℚ-fraction (pos 1) 1 (omega arith)))
 
 -- a whole number that is at least a floor above another whole number less one
-whole_reaches : (v b g : ℚ) → IsWhole v → IsWhole b → g ≤ℚ v → (b -ℚ one_ℚ) <ℚ g → b ≤ℚ v
+whole_reaches : (v b g : ℚ) → IsWholeNumber v → IsWholeNumber b → g ≤ℚ v → (b -ℚ one_ℚ) <ℚ g → b ≤ℚ v
 whole_reaches v b g wv wb low over =
     by_lt_z wv.number wb.number
     (λ (lt : wv.number <ℤ wb.number).

@@ -1,3 +1,7 @@
+pub mod NodeLists
+pub mod KeptNodes
+pub mod Paths
+pub mod KeptTrees
 pub mod Integers
 pub mod LeastCosts
 pub mod Levels

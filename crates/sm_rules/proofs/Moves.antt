@@ -1,10 +1,9 @@
 -- A change of a tree keeps it sound, for any family of assignments.
-use Rattle.std.proofs.Common.{◌≡◌, ℕ, ◌<◌, ◌⊎◌, Bool, true, false, cond, List, [], ◌∷◌, ◌++◌, length, map, refl, ◌∙◌, arith, inl, inr}
-use Rattle.std.specs.Prelude.{ℤ, pos, ◌*ℤ◌, ◌<ℤ◌, All, int_lt, ◌==◌, ◌&&◌}
+use Rattle.std.proofs.Common.{◌≡◌, ℕ, ◌<◌, ◌⊎◌, Bool, true, false, cond, List, [], ◌∷◌, ◌++◌, length, refl, inl, inr}
+use Rattle.std.specs.Prelude.{ℤ, pos, ◌*ℤ◌, ◌<ℤ◌, All, int_lt, ◌==◌}
 use Rattle.sm_frac.specs.Rational.{ℚ, ◌≤ℚ◌}
 use Rattle.sm_kinds.specs.declared.literal.Literal.{Literal}
 use Rattle.sm_flat.specs.declared.goal.Goal.{Goal}
-use Rattle.sm_kinds.specs.Literals.{complement}
 use Rattle.sm_flat.specs.Models.{FlatModel}
 use Rattle.sm_kinds.specs.Points.{Point}
 use Rattle.sm_store.specs.Stores.{Extent, In, narrow}
@@ -13,7 +12,7 @@ use Rattle.sm_rules.specs.declared.node.Status.{Status}
 use Rattle.sm_rules.specs.declared.node.Status.TheVariants.{Open, Half, Split}
 use Rattle.sm_rules.specs.Floors.{AreFloors, number_of, numbers_of, greater, raised}
 use Rattle.sm_rules.specs.Objectives.{costs, least_costs}
-use Rattle.sm_rules.specs.Nodes.{NodeView, no_node, CoversPart, Covers, TakesChild, LawfulChild, with_child, is_split}
+use Rattle.sm_rules.specs.Nodes.{NodeView, CoversPart, Covers, TakesChild, LawfulChild, with_child, is_split}
 use Rattle.sm_rules.specs.Trees.{Tree, node_at, set_node, without_node, has_no_child, is_done, pruned, focus_of, close_focus, child_of, open_child, root_of, Covered, AllLow, TreeSound}
 use Rattle.sm_rules.proofs.LeastCosts.{AreOrdered, least_costs-le}
 use Rattle.sm_rules.proofs.Levels.{both_true}
@@ -85,12 +84,12 @@ Covered-pruned a (n ∷ ns) h = by_test (is_done n (pruned ns)) refl (λ h. Cove
     by_test false e rest (inr there) = inr (rest there)
 
 module _ (m : FlatModel) (a : Point) where
-  -- the assignment costs at least the floors of a node that covers it
+  -- the assignment costs at least the floors of a node in whose store it lies
   abbrev pub IsLow : NodeView → Type 0
-  IsLow n = Covers a n → AreFloors (numbers_of n.floors) (costs m a)
+  IsLow n = In a n.store → AreFloors (numbers_of n.floors) (costs m a)
 
   pub node_low : (ns : List NodeView) (k : ℕ) → AllLow m a ns → IsLow (node_at ns k)
-  node_low [] k low = λ h. absurd h
+  node_low [] k low = λ h. tt
   node_low (n ∷ ns) k low = by_test (n.number == k) (node_low ns k low.1)
     where
       by_test : (b : Bool) → IsLow (node_at ns k) → IsLow (cond b n (node_at ns k))
@@ -128,21 +127,10 @@ module _ (m : FlatModel) (a : Point) where
 -- ---- the parts of a node
 
 -- the two children cover what their parent did
-split_covers : (a : Point) (store : List Extent) (status : Status) (l : Literal) → TakesChild status → LawfulChild store status l → CoversPart a store status → CoversPart a store (with_child status l) ⊎ In a (narrow store l)
-split_covers a store Open l takes law h = elim (In-narrow a store l law.0.known h) [ inl x ↦ inr x | inr x ↦ inl x ]
-split_covers a store (Half first) l takes law h = inr (rw law h)
-split_covers a store (Split first) l takes law h = absurd takes
-
--- what a node with a child covers, and what the child has in its store, the node covered
-kept_covers : (a : Point) (store : List Extent) (status : Status) (l : Literal) → TakesChild status → CoversPart a store (with_child status l) → CoversPart a store status
-kept_covers a store Open l takes h = In-from_narrow a store (complement l) h
-kept_covers a store (Half first) l takes h = absurd h
-kept_covers a store (Split first) l takes h = absurd takes
-
-child_covers : (a : Point) (store : List Extent) (status : Status) (l : Literal) → TakesChild status → LawfulChild store status l → In a (narrow store l) → CoversPart a store status
-child_covers a store Open l takes law h = In-from_narrow a store l h
-child_covers a store (Half first) l takes law h = rw law at h
-child_covers a store (Split first) l takes law h = absurd takes
+split_covers : (a : Point) (store : List Extent) (status : Status) (l : Literal) → pos 0 <ℤ a.denominator → TakesChild status → LawfulChild store status l → CoversPart a store status → CoversPart a store (with_child status l) ⊎ In a (narrow store l)
+split_covers a store Open l above takes law h = elim (In-narrow a store l above law.0.known h) [ inl x ↦ inr x | inr x ↦ inl x ]
+split_covers a store (Half first) l above takes law h = inr (rw law h)
+split_covers a store (Split first) l above takes law h = absurd takes
 
 greater_le : (p q : ℤ × ℤ) (v : ℚ) → number_of p ≤ℚ v → number_of q ≤ℚ v → number_of (greater p q) ≤ℚ v
 greater_le p q v h k = by_test (int_lt (p.0 *ℤ q.1) (q.0 *ℤ p.1))
@@ -174,13 +162,12 @@ module _ (m : FlatModel) (P : Point → Type 0) where
       let new : NodeView = record old { status = with_child old.status l } in
       let child = child_of m t.count old l in
       record {
-        covered = λ a p. joined a new child (Covered-split a t.nodes parent new child (λ h. split_covers a old.store old.status l takes law h) (sound.covered a p));
+        covered = λ a p. joined a new child (Covered-split a t.nodes parent new child (λ h. split_covers a old.store old.status l (positive a p) takes law h) (sound.covered a p));
         floors = λ a p.
             let low = sound.floors a p in
             let here = node_low m a t.nodes parent low in
-            let still : IsLow m a new = λ h. here (kept_covers a old.store old.status l takes h) in
-            let below : IsLow m a child = λ h. raised_floors old.floors (least_costs m.goals (narrow old.store l)) (costs m a) (here (child_covers a old.store old.status l takes law h)) (least_costs-le a (narrow old.store l) m.goals (positive a p) ordered h known) in
-            AllLow-push m a (set_node t.nodes parent new) child (AllLow-set m a t.nodes parent new still low) below;
+            let below : IsLow m a child = λ h. raised_floors old.floors (least_costs m.goals (narrow old.store l)) (costs m a) (here (In-from_narrow a old.store l (positive a p) h)) (least_costs-le a (narrow old.store l) m.goals (positive a p) ordered h known) in
+            AllLow-push m a (set_node t.nodes parent new) child (AllLow-set m a t.nodes parent new here low) below;
       }
     where
       joined : (a : Point) (new child : NodeView) → Covered a (set_node t.nodes parent new) ⊎ Covers a child → Covered a (set_node t.nodes parent new ++ child ∷ [])

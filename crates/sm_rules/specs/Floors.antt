@@ -29,14 +29,14 @@ CostLess vs [] = ⊥
 CostLess [] (l ∷ ls) = ⊥
 CostLess (v ∷ vs) (l ∷ ls) = (v <ℚ l.best) ⊎ ((v ≡ l.best) × CostLess vs ls)
 
-pub record IsWhole (x : ℚ) : Type 0 where
+pub record IsWholeNumber (x : ℚ) : Type 0 where
   pub number : ℤ
   pub is : x ≡ whole_ℚ number
 
 -- of goals with whole values alone, cost and best are whole numbers
 pub record FitsLevel (v : ℚ) (l : Level) : Type 0 where
-  pub value : l.whole ≡ true → IsWhole v
-  pub best : l.whole ≡ true → IsWhole l.best
+  pub value : l.whole ≡ true → IsWholeNumber v
+  pub best : l.whole ≡ true → IsWholeNumber l.best
 
 abbrev pub FitLevels : List ℚ → List Level → Type 0
 FitLevels vs [] = Unit {0}

@@ -1,6 +1,5 @@
 -- Which lines are lawful. A line whose rules aren't there yet never is.
-use Rattle.std.specs.Prelude.{◌≡◌, ◌≢◌, ℕ, List, length, map, ℤ, Option, None, MatchOption, IfSome}
-use Rattle.sm_flat.specs.declared.goal.Sense.{Sense}
+use Rattle.std.specs.Prelude.{◌≡◌, List, length, map, ℤ, Option, None, MatchOption, IfSome}
 use Rattle.sm_flat.specs.declared.goal.Sense.TheVariants.{Satisfy}
 use Rattle.sm_flat.specs.Models.{FlatModel}
 use Rattle.sm_flat.specs.Assignments.{point, point_of}
@@ -17,7 +16,7 @@ use Rattle.sm_rules.specs.Objectives.{levels}
 use Rattle.sm_rules.specs.Nodes.{LawfulChild}
 use Rattle.sm_rules.specs.Trees.{node_at, focus_of, IsRefuted}
 use Rattle.sm_rules.specs.Violations.{IsViolated}
-use Rattle.sm_rules.specs.States.{State}
+use Rattle.sm_rules.specs.States.{State, current}
 use Rattle.sm_rules.specs.Orders.{IsDue}
 
 -- there is a best, and these floors end a node
@@ -43,9 +42,9 @@ LawfulVerdict m s (Range bound best) = ⊥
 
 abbrev pub Lawful : FlatModel → State → Line → Type 0
 Lawful m s (line.Header version) = version ≡ 1
-Lawful m s (line.Node id parent literal) = LawfulChild (node_at s.main.nodes parent).store (node_at s.main.nodes parent).status literal
-Lawful m s line.CloseFloor = BeatsBest m (focus_of s.main).floors s.best
-Lawful m s (line.Violated k) = IsViolated m (focus_of s.main).store k
+Lawful m s (line.Node id parent literal) = LawfulChild (node_at (current s).nodes parent).store (node_at (current s).nodes parent).status literal
+Lawful m s line.CloseFloor = BeatsBest m (focus_of (current s)).floors s.best
+Lawful m s (line.Violated k) = IsViolated m (focus_of (current s)).store k
 Lawful m s (line.Sol denominator values) = IsNextBest m s.best denominator values
 Lawful m s (line.Verdict v) = LawfulVerdict m s v
 Lawful m s _ = ⊥

@@ -3,12 +3,13 @@ pub mod Objectives
 pub mod Nodes
 pub mod Trees
 pub mod Violations
+pub mod Cuts
 pub mod States
 pub mod Orders
 pub mod Laws
-pub mod Steps
+pub mod Transitions
 pub mod Sound
-pub mod Spares
+pub mod KeptNodes
 pub mod Refusals
 pub mod Halves
 pub mod Places

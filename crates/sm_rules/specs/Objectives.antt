@@ -1,11 +1,11 @@
 -- What the goals cost, all taken as minimised: at an assignment, and at least over the boxes of a store.
-use Rattle.std.specs.Prelude.{ℕ, ◌<◌, ◌≤◌, List, [], ◌∷◌, length, map, All, ℤ, pos, ◌+ℤ◌, ◌*ℤ◌, int_le, unsigned_abs, Bool, true, if◌then◌else◌}
+use Rattle.std.specs.Prelude.{false, ℕ, ◌<◌, ◌≤◌, List, [], ◌∷◌, length, map, All, ℤ, pos, ◌+ℤ◌, ◌*ℤ◌, int_le, unsigned_abs, Bool, true, if◌then◌else◌}
 use Rattle.std.specs.List.{list_all}
 use Rattle.sm_frac.specs.Rational.{ℚ, fraction}
 use Rattle.sm_flat.specs.declared.goal.Goal.{Goal}
 use Rattle.sm_flat.specs.declared.goal.Sense.{Sense}
 use Rattle.sm_kinds.specs.declared.var.VarKind.{VarKind}
-use Rattle.sm_kinds.specs.declared.var.VarKind.TheVariants.{Set}
+use Rattle.sm_kinds.specs.declared.var.VarKind.TheVariants.{Set, Int, Real}
 use Rattle.sm_flat.specs.Models.{FlatModel}
 use Rattle.sm_kinds.specs.Vars.{var_at}
 use Rattle.sm_kinds.specs.Limits.{IsSmall, most_goal_terms}
@@ -47,6 +47,8 @@ least_costs goals store = map (λ g. (least_cost store g, pos 1)) goals
 -- the variable has whole values alone
 abbrev pub is_discrete : VarKind → Bool
 is_discrete Set = true
+is_discrete Int = true
+is_discrete Real = false
 
 abbrev pub is_whole : FlatModel → Goal → Bool
 is_whole m g = list_all (λ t. is_discrete (var_at m.vars t.0).kind) g.terms

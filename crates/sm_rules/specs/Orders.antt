@@ -1,28 +1,28 @@
 -- Which lines may come now, whatever they say.
-use Rattle.std.specs.Prelude.{◌≡◌, ℕ, Option, None, IsSome}
+use Rattle.std.specs.Prelude.{◌≡◌, ℕ, None, IsSome}
 use Rattle.sm_step.specs.declared.line.Line.{Line}
 use Rattle.sm_step.specs.declared.line.Line.TheVariants as line
 use Rattle.sm_rules.specs.declared.node.Status.TheVariants.{Open}
 use Rattle.sm_rules.specs.Nodes.{TakesChild}
 use Rattle.sm_rules.specs.Trees.{node_at, focus_of}
-use Rattle.sm_rules.specs.States.{State}
+use Rattle.sm_rules.specs.States.{State, current}
 
 -- the header stood, and the focus is open
 pub record AtOpenFocus (s : State) : Type 0 where
   pub begun : IsSome s.version
-  pub is_open : (focus_of s.main).status ≡ Open
+  pub is_open : (focus_of (current s)).status ≡ Open
 
 -- the header stood; the child has the next number, and its parent has room for it
 pub record NextChild (s : State) (id parent : ℕ) : Type 0 where
   pub begun : IsSome s.version
-  pub next : id ≡ s.main.count
-  pub takes : TakesChild (node_at s.main.nodes parent).status
+  pub next : id ≡ (current s).count
+  pub takes : TakesChild (node_at (current s).nodes parent).status
 
 -- No frame is ever open yet, and no log has version 2.
 abbrev pub IsInOrder : State → Line → Type 0
 IsInOrder s (line.Header version) = s.version ≡ None
 IsInOrder s (line.Node id parent literal) = NextChild s id parent
-IsInOrder s (line.At id) = IsSome s.version × ((node_at s.main.nodes id).status ≡ Open)
+IsInOrder s (line.At id) = IsSome s.version × ((node_at (current s).nodes id).status ≡ Open)
 IsInOrder s (line.Infer rule result) = AtOpenFocus s
 IsInOrder s (line.Lemma lemma result) = AtOpenFocus s
 IsInOrder s (line.CutoffNone literal terms) = AtOpenFocus s

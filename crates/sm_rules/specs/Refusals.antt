@@ -2,7 +2,7 @@
 use Rattle.sm_flat.specs.Models.{FlatModel}
 use Rattle.sm_step.specs.declared.line.Line.{Line}
 use Rattle.sm_rules.specs.States.{State}
-use Rattle.sm_rules.specs.Steps.{IsRefusedFor}
+use Rattle.sm_rules.specs.Transitions.{IsRefusedFor}
 use Rattle.sm_rules.specs.declared.log_state.ApplyRefusal.{ApplyRefusal}
 use Rattle.sm_rules.specs.declared.log_state.ApplyRefusal.TheVariants.{Refused, OutOfMemory}
 

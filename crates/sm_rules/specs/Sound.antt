@@ -12,6 +12,7 @@ use Rattle.sm_step.specs.declared.line.Line.{Line}
 use Rattle.sm_step.specs.declared.line.Line.TheVariants as line
 use Rattle.sm_rules.specs.Nodes.{NodeView}
 use Rattle.sm_rules.specs.Trees.{TreeSound, IsNumbered, pruned}
+use Rattle.sm_rules.specs.Cuts.{SatisfiesLemma, SatisfiesCut}
 use Rattle.sm_rules.specs.States.{State}
 
 -- a solution on the constraints whose numbers pass the test s that is better than the best, if there is one
@@ -22,6 +23,8 @@ pub record Live (m : FlatModel) (s : ℕ → Bool) (best : Option Numbers) (a : 
 pub record Sound (m : FlatModel) (s : ℕ → Bool) (state : State) : Type 0 where
   pub best : IfSome state.best (λ b. Solves m (point_of b))
   pub tree : TreeSound m (Live m s state.best) state.main.nodes
+  pub lemmas : (a : Point) → Live m s state.best a → All (SatisfiesLemma a) state.lemmas
+  pub cuts : (a : Point) → SolvesOn m s a → All (SatisfiesCut a) state.cuts
 
 -- the constraints that a line names
 abbrev pub named : Line → List ℕ

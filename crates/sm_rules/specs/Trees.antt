@@ -1,16 +1,14 @@
 -- A tree: its nodes whose own tree isn't refuted, in order of their numbers.
-use Rattle.std.specs.Prelude.{◌≡◌, ℕ, ◌+◌, ◌<◌, List, [], ◌∷◌, ◌++◌, length, Bool, ◌&&◌, not, ◌==◌, All, AllPairs, ◌⊎◌, if◌then◌else◌}
+use Rattle.std.specs.Prelude.{◌≡◌, ℕ, ◌+◌, ◌<◌, List, [], ◌∷◌, ◌++◌, Bool, ◌&&◌, not, ◌==◌, All, AllPairs, ◌⊎◌, if◌then◌else◌}
 use Rattle.std.specs.List.{list_all}
 use Rattle.sm_kinds.specs.declared.literal.Literal.{Literal}
-use Rattle.sm_flat.specs.declared.goal.Goal.{Goal}
 use Rattle.sm_flat.specs.Models.{FlatModel}
 use Rattle.sm_kinds.specs.Points.{Point}
-use Rattle.sm_store.specs.Stores.{Extent, narrow}
-use Rattle.sm_rules.specs.declared.node.Status.{Status}
+use Rattle.sm_store.specs.Stores.{Extent, In, narrow}
 use Rattle.sm_rules.specs.declared.node.Status.TheVariants.{Open}
 use Rattle.sm_rules.specs.Floors.{AreFloors, numbers_of, raised}
 use Rattle.sm_rules.specs.Objectives.{costs, least_costs}
-use Rattle.sm_rules.specs.Nodes.{NodeView, no_node, Covers, is_split, with_child}
+use Rattle.sm_rules.specs.Nodes.{NodeOf, NodeView, no_node, Covers, is_split, with_child}
 
 pub record Tree : Type 0 where
   pub nodes : List NodeView
@@ -19,30 +17,30 @@ pub record Tree : Type 0 where
   pub focus : ℕ
 
 -- the node of a number
-abbrev pub node_at : List NodeView → ℕ → NodeView
+abbrev pub node_at : {E : Type 0} → List (NodeOf E) → ℕ → NodeOf E
 node_at [] k = no_node
 node_at (n ∷ ns) k = if n.number == k then n else node_at ns k
 
 -- the nodes with this one in the place of the node of a number
-abbrev pub set_node : List NodeView → ℕ → NodeView → List NodeView
+abbrev pub set_node : {E : Type 0} → List (NodeOf E) → ℕ → NodeOf E → List (NodeOf E)
 set_node [] k new = []
 set_node (n ∷ ns) k new = if n.number == k then new ∷ ns else n ∷ set_node ns k new
 
 -- the nodes without the node of a number
-abbrev pub without_node : List NodeView → ℕ → List NodeView
+abbrev pub without_node : {E : Type 0} → List (NodeOf E) → ℕ → List (NodeOf E)
 without_node [] k = []
 without_node (n ∷ ns) k = if n.number == k then ns else n ∷ without_node ns k
 
 -- none of these is a child of the node of that number
-abbrev pub has_no_child : ℕ → List NodeView → Bool
+abbrev pub has_no_child : {E : Type 0} → ℕ → List (NodeOf E) → Bool
 has_no_child k ns = list_all (λ c. not (c.parent == k)) ns
 
 -- the node has two children, and neither is among those that come after it
-abbrev pub is_done : NodeView → List NodeView → Bool
+abbrev pub is_done : {E : Type 0} → NodeOf E → List (NodeOf E) → Bool
 is_done n after = is_split n.status && has_no_child n.number after
 
 -- the nodes without those that have two children of which none is left
-abbrev pub pruned : List NodeView → List NodeView
+abbrev pub pruned : {E : Type 0} → List (NodeOf E) → List (NodeOf E)
 pruned [] = []
 pruned (n ∷ ns) = if is_done n (pruned ns) then pruned ns else n ∷ pruned ns
 
@@ -94,12 +92,12 @@ abbrev pub Covered : Point → List NodeView → Type 0
 Covered a [] = ⊥
 Covered a (n ∷ ns) = Covers a n ⊎ Covered a ns
 
--- the assignment costs at least the floors of each node that covers it
+-- the assignment costs at least the floors of each node in whose store it lies
 abbrev pub AllLow : FlatModel → Point → List NodeView → Type 0
 AllLow m a [] = Unit {0}
-AllLow m a (n ∷ ns) = (Covers a n → AreFloors (numbers_of n.floors) (costs m a)) × AllLow m a ns
+AllLow m a (n ∷ ns) = (In a n.store → AreFloors (numbers_of n.floors) (costs m a)) × AllLow m a ns
 
--- each assignment of the family is covered, and costs at least the floors of what covers it
+-- each assignment of the family is covered, and costs at least the floors of each node in whose store it lies
 pub record TreeSound (m : FlatModel) (P : Point → Type 0) (nodes : List NodeView) : Type 0 where
   pub covered : (a : Point) → P a → Covered a nodes
   pub floors : (a : Point) → P a → AllLow m a nodes

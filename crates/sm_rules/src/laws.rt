@@ -6,12 +6,12 @@ ghost use Rattle.sm_flat.specs.Goals.{IsBetter, HasValues, goal_at};
 ghost use Rattle.sm_step.specs.Verdicts.{parts_of};
 ghost use Rattle.sm_rules.specs.Nodes.{LawfulChild, TakesChild};
 ghost use Rattle.sm_rules.specs.Laws.{BeatsBest, IsNextBest, AsksForAny};
-ghost use Rattle.sm_rules.specs.Steps.{SaysVerdict};
+ghost use Rattle.sm_rules.specs.Transitions.{SaysVerdict};
 ghost use Rattle.sm_kinds.specs.Literals.{complement};
 ghost use Rattle.sm_store.specs.Stores.{Narrows};
 
 use crate::cause::Cause;
-use crate::node::{Node, Status};
+use crate::node::Status;
 use crate::objectives::{ends_node, has_values, is_better};
 use sm_flat::{Assignment, Flat, Literal, Sense, is_assignment, solves};
 use sm_frac::Frac;
@@ -73,22 +73,12 @@ pub(crate) fn is_next_best(
     }
 }
 
-/// Whether the literal and its complement both narrow the store and leave it nonempty.
-fn splits(store: &Store, literal: &Literal) -> bool
-    ensures { IsTrue result ↔ (Narrows store.now literal.now × Narrows store.now (complement literal.now)) }
+/// Whether the literal may open a first child under an open node of this store: it and its complement both narrow the store and
+/// leave it nonempty, which is never so of a real variable.
+pub(crate) fn splits(store: &Store, literal: &Literal) -> bool
+    ensures { IsTrue result ↔ LawfulChild store.now Status.Open literal.now }
 {
     store.narrows(literal) && store.narrows(&literal.complement())
-}
-
-/// Whether the literal may open a child under the node.
-pub(crate) fn is_lawful_child(node: &Node, literal: &Literal) -> bool
-    ensures { IsTrue result ↔ LawfulChild node.now.store node.now.status literal.now }
-{
-    match node.status() {
-        Status::Open => splits(node.store(), literal),
-        Status::Half(first) => node.is_other(&first, literal),
-        Status::Split(_) => false,
-    }
 }
 
 /// Whether any solution will do.

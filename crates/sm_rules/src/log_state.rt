@@ -11,13 +11,14 @@ ghost use Rattle.sm_rules.specs.Halves.{HasOneChild, IsLastHalf};
 ghost use Rattle.sm_rules.specs.Violations.{IsViolated};
 ghost use Rattle.sm_rules.specs.Orders.{AtOpenFocus, NextChild, IsInOrder, IsDue};
 ghost use Rattle.sm_rules.specs.Laws.{BeatsBest, Lawful, LawfulVerdict, Allowed};
-ghost use Rattle.sm_rules.specs.Steps.{after, start};
+ghost use Rattle.sm_rules.specs.Transitions.{after, start};
 ghost use Rattle.sm_rules.specs.Sound.{IsOf, Sound, named};
 ghost use Rattle.sm_step.specs.declared.verdict.Verdict.{Verdict as SaidVerdict};
 ghost use Rattle.sm_step.specs.declared.line.Line.TheVariants.{Verdict as SaysVerdict};
 ghost use Rattle.sm_rules.specs.Refusals.{IsRefusedBy};
 
 use crate::cause::Cause;
+use crate::last_line::LastLine;
 use crate::node::Status;
 use crate::tree::Tree;
 use crate::{laws, violation};
@@ -38,15 +39,17 @@ pub struct LogState {
     version: Option<u32>,
     main: Tree,
     best: Option<Assignment>,
+    last: LastLine,
     verdict: Option<Verdict>,
 }
 
 impl Model for LogState {
+    ghost use Rattle.std.specs.Prelude.{[]};
     ghost use Rattle.sm_rules.specs.States.{State};
 
     ghost Value = { State };
 
-    ghost view = { λ s. record { version = s.version; main = s.main; best = s.best; verdict = s.verdict } };
+    ghost view = { λ s. record { version = s.version; main = s.main; lemmas = []; cuts = []; best = s.best; last = s.last; verdict = s.verdict } };
 }
 
 /// Why a line isn't applied.
@@ -97,6 +100,9 @@ impl LogState {
     pub fn new(alloc: Global, flat: &Flat) -> Result<LogState, OutOfMemory>
         ensures start { IfOk result (λ s. s ≡ start flat.now) }
         ensures of { IfOk result (IsOf flat.now) }
+
+        // It is sound on any constraints.
+        ensures sound { IfOk result (λ state. (s : ℕ → Bool) → Sound flat.now s state) }
     {
         let main = Tree::root(alloc, flat)?;
         Ok(LogState {
@@ -104,6 +110,7 @@ impl LogState {
             version: None,
             main,
             best: None,
+            last: LastLine::Other,
             verdict: None,
         })
     }
@@ -112,18 +119,15 @@ impl LogState {
     fn is_open(&self, number: u64) -> bool
         ensures { IsTrue result ↔ ((node_at self.now.main.nodes number).status ≡ Status.Open) }
     {
-        match self.main.node(number) {
-            Some(node) => node.status() == Status::Open,
-            None => false,
-        }
+        self.main.status(number) == Some(Status::Open)
     }
 
     /// Whether the node of a number is left and has room for a child.
     fn takes_child(&self, number: u64) -> bool
         ensures { IsTrue result ↔ TakesChild (node_at self.now.main.nodes number).status }
     {
-        match self.main.node(number) {
-            Some(node) => laws::takes_child(node.status()),
+        match self.main.status(number) {
+            Some(status) => laws::takes_child(status),
             None => false,
         }
     }
@@ -190,16 +194,6 @@ impl LogState {
         self.verdict.is_none() && self.is_in_order(line)
     }
 
-    /// Whether the literal may open a child under the node of a number.
-    fn is_lawful_child(&self, parent: u64, literal: &Literal) -> bool
-        ensures { IsTrue result ↔ LawfulChild (node_at self.now.main.nodes parent).store (node_at self.now.main.nodes parent).status literal.now }
-    {
-        match self.main.node(parent) {
-            Some(node) => laws::is_lawful_child(node, literal),
-            None => false,
-        }
-    }
-
     /// Whether the line is lawful.
     fn is_lawful(&self, flat: &Flat, line: &Line) -> Result<bool, AllocError>
         requires of { IsOf flat.now self.now }
@@ -212,7 +206,7 @@ impl LogState {
                 parent,
                 literal,
                 ..
-            } => Ok(self.is_lawful_child(*parent, literal)),
+            } => self.main.is_lawful_child(self.alloc, *parent, literal),
             Line::CloseFloor => Ok(self.is_ended(flat)),
             Line::Violated { k } => Ok(self.is_violated(flat, *k)),
             Line::Sol {
@@ -257,8 +251,27 @@ impl LogState {
         Ok(())
     }
 
-    /// The step by an allowed line. After want of memory all is as before.
-    fn step(&mut self, flat: &Flat, line: &Line) -> Result<(), AllocError>
+    /// Takes the step of an allowed line, which isn't tested again.
+    ///
+    /// # Errors
+    ///
+    /// `OutOfMemory`. The state is then as before.
+    pub fn step(&mut self, flat: &Flat, line: &Line) -> Result<(), OutOfMemory>
+        requires of { IsOf flat.now self.old }
+        requires allowed { Allowed flat.now self.old line.now }
+        ensures after { OnOk result (self.new ≡ after flat.now self.old line.now) }
+        ensures err { OnErr result (self.new ≡ self.old) }
+        ensures of { IsOf flat.now self.new }
+
+        // On whatever constraints that have those that the line names, what was sound still is.
+        ensures sound { (s : ℕ → Bool) → All (λ k. s k ≡ true) (named line.now) → Sound flat.now s self.old → Sound flat.now s self.new }
+    {
+        self.change(flat, line)?;
+        Ok(())
+    }
+
+    /// What a line makes of the state. After want of memory all is as before.
+    fn change(&mut self, flat: &Flat, line: &Line) -> Result<(), AllocError>
         requires of { IsOf flat.now self.old }
         requires allowed { Allowed flat.now self.old line.now }
         ensures after { OnOk result (self.new ≡ after flat.now self.old line.now) }
@@ -284,6 +297,7 @@ impl LogState {
             }
             _ => {}
         }
+        self.last = LastLine::Other;
         Ok(())
     }
 
@@ -340,8 +354,7 @@ impl LogState {
     pub fn floor(&self, node: u64, level: u32) -> Option<Frac>
         ensures { option_map parts_of result ≡ slice_get (node_at self.now.main.nodes node).floors level }
     {
-        let node = self.main.node(node)?;
-        node.floors().get(level as usize).copied()
+        self.main.floors(node)?.get(level as usize).copied()
     }
 
     /// How many `node` lines there were so far.
@@ -370,9 +383,8 @@ impl LogState {
         ensures open { IsSome result ↔ ((focus_of self.now.main).status ≡ Status.Open) }
         ensures value { IfSome result (λ s. s.now ≡ (focus_of self.now.main).store) }
     {
-        let node = self.main.node(self.main.focus())?;
-        if node.status() == Status::Open {
-            Some(node.store())
+        if self.is_open(self.main.focus()) {
+            Some(self.main.store())
         } else {
             None
         }
@@ -397,10 +409,8 @@ impl LogState {
     pub fn is_ended(&self, flat: &Flat) -> bool
         ensures { IsTrue result ↔ BeatsBest flat.now (focus_of self.now.main).floors self.now.best }
     {
-        match self.main.node(self.main.focus()) {
-            Some(node) => laws::beats_best(flat, node.floors(), &self.best),
-            None => laws::beats_best(flat, &[], &self.best),
-        }
+        let floors = self.main.floors(self.main.focus()).unwrap_or(&[]);
+        laws::beats_best(flat, floors, &self.best)
     }
 
     /// Whether all variables of constraint k are fixed at the focus, and their values violate it.
@@ -409,10 +419,7 @@ impl LogState {
         requires open { (focus_of self.now.main).status ≡ Status.Open }
         ensures { IsTrue result ↔ IsViolated flat.now (focus_of self.now.main).store k }
     {
-        match self.main.node(self.main.focus()) {
-            Some(node) => violation::is_violated(flat, node.store(), k),
-            None => unreachable!(),
-        }
+        violation::is_violated(flat, self.main.store(), k)
     }
 
     /// Whether the assignment is better than the best, or there is no best.

@@ -1,7 +1,7 @@
 //! The nodes of a log's tree.
 use sm_flat::Literal;
 use sm_frac::Frac;
-use sm_store::Store;
+use sm_step::Short;
 use std::marker::Model;
 
 /// How far a node was split.
@@ -21,33 +21,31 @@ pub(crate) struct Node {
     pub number: u64,
     /// The number of its parent; the root is its own.
     pub parent: u64,
-    pub store: Store,
+    /// What narrowed its parent's store to its own, in order.
+    pub literals: Short<Literal>,
     /// One lower bound a goal on what solutions in the node cost, goals taken as minimised.
     pub floors: Vec<Frac>,
     pub status: Status,
-    /// A second copy of the store while the node has one child, so that the other child's store takes no memory.
-    pub spare: Option<Store>,
 }
 
 impl Model for Node {
     ghost use Rattle.std.specs.Prelude.{map};
     ghost use Rattle.sm_step.specs.Verdicts.{parts_of};
-    ghost use Rattle.sm_rules.specs.Nodes.{NodeView};
-    ghost use Rattle.sm_rules.specs.Spares.{KeepsSpare};
+    ghost use Rattle.sm_rules.specs.Nodes.{KeptNode};
 
-    ghost Value = { NodeView };
+    ghost Value = { KeptNode };
 
-    ghost view = { λ n. record { number = n.number; parent = n.parent; store = n.store; floors = map parts_of n.floors.items; status = n.status } };
-
-    ghost invariant = { λ n. KeepsSpare n.status n.store n.spare };
+    ghost view = { λ n. record { number = n.number; parent = n.parent; store = n.literals; floors = map parts_of n.floors.items; status = n.status } };
 }
 
 impl Node {
-    ghost use Rattle.std.specs.Prelude.{◌≡◌, ◌↔◌, map, IsTrue, IfSome, IfNone};
+    ghost use Rattle.std.specs.Prelude.{◌≡◌, ◌≤◌, ◌^◌, ◌↔◌, map, unsigned_abs, IsTrue, IfSome, IfNone};
     ghost use Rattle.sm_kinds.specs.Literals.{complement};
     ghost use Rattle.sm_kinds.specs.declared.literal.Literal.{Literal as Stated};
     ghost use Rattle.sm_step.specs.Verdicts.{parts_of};
+    ghost use Rattle.sm_rules.specs.Nodes.{TakesChild};
     ghost use Rattle.sm_rules.specs.Halves.{HasOneChild};
+    ghost use Rattle.sm_rules.specs.KeptNodes.{IsStatusKnown, marked};
 
     /// The number.
     pub(crate) fn number(&self) -> u64
@@ -63,11 +61,11 @@ impl Node {
         self.parent
     }
 
-    /// What solutions may still be.
-    pub(crate) fn store(&self) -> &Store
+    /// What narrowed its parent's store to its own, in order.
+    pub(crate) fn literals(&self) -> &[Literal]
         ensures { result.now ≡ self.now.store }
     {
-        &self.store
+        self.literals.as_slice()
     }
 
     /// The floors, goal by goal.
@@ -84,26 +82,14 @@ impl Node {
         self.status
     }
 
-    /// The literal of the child that is still to come, where there is one child.
-    pub(crate) fn other_literal(&self) -> Option<Literal>
-        ensures some { IfSome result (λ l. (first : Stated) × (self.now.status ≡ Status.Half first) × (l ≡ complement first)) }
-        ensures none { IfNone result (HasOneChild self.now.status → ⊥) }
+    /// It has one child more, of this literal.
+    pub(crate) fn mark(&mut self, literal: &Literal)
+        requires { TakesChild self.old.status }
+        ensures { self.new ≡ marked self.old literal.now }
     {
-        // Reading the spare copy shows that the literal is small.
-        let _spare = &self.spare;
-        match self.status {
-            Status::Half(first) => Some(first.complement()),
-            Status::Open | Status::Split(_) => None,
-        }
-    }
-
-    /// Whether the literal is the one of the child that is still to come, where the first child's is this.
-    pub(crate) fn is_other(&self, first: &Literal, literal: &Literal) -> bool
-        requires { self.now.status ≡ Status.Half first.now }
-        ensures { IsTrue result ↔ (literal.now ≡ complement first.now) }
-    {
-        // Reading the spare copy shows that the literal is small.
-        let _spare = &self.spare;
-        *literal == first.complement()
+        self.status = match self.status {
+            Status::Open => Status::Half(*literal),
+            Status::Half(first) | Status::Split(first) => Status::Split(first),
+        };
     }
 }

@@ -179,7 +179,8 @@ fn is_discrete(kind: VarKind) -> bool
     ensures { result ≡ is_discrete kind }
 {
     match kind {
-        VarKind::Set => true,
+        VarKind::Set | VarKind::Int => true,
+        VarKind::Real => false,
     }
 }
 

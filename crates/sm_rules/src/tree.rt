@@ -2,20 +2,22 @@
 ghost use Rattle.std.specs.Prelude.{◌≡◌, ◌≢◌, ◌+◌, ◌<◌, ◌≤◌, ◌^◌, ◌↔◌, ℕ, true, false, All, Contains, IsTrue, IsSome, IfOk, OnOk, OnErr, IfSome, IfNone, length, map, drop, slice_set, unsigned_abs};
 ghost use Rattle.sm_flat.specs.Limits.{IsFlat};
 ghost use Rattle.sm_kinds.specs.Literals.{complement};
-ghost use Rattle.sm_store.specs.Stores.{declared, narrow, IsStoreOf};
+ghost use Rattle.sm_store.specs.Stores.{Extent, declared, narrow, IsStoreOf};
 ghost use Rattle.sm_step.specs.Verdicts.{parts_of};
-ghost use Rattle.sm_rules.specs.Nodes.{NodeView, no_node, is_split, LawfulChild};
-ghost use Rattle.sm_rules.specs.Floors.{raised};
+ghost use Rattle.sm_rules.specs.Nodes.{NodeView, KeptNode, no_node, is_split, TakesChild, LawfulChild};
 ghost use Rattle.sm_rules.specs.Halves.{HasOneChild, IsLastHalf};
-ghost use Rattle.sm_rules.specs.Objectives.{least_costs};
 ghost use Rattle.sm_rules.specs.Sound.{IsNodeOf};
 ghost use Rattle.sm_rules.specs.Trees.{node_at, without_node, pruned, has_no_child, is_done, focus_of, close_focus, open_child, root_of, IsRefuted};
-ghost use Rattle.sm_rules.specs.Places.{AreRising, IsPlace, at_place, with_child_at};
+ghost use Rattle.sm_rules.specs.Places.{AreRising, IsPlace, at_place};
+ghost use Rattle.sm_rules.specs.KeptNodes.{IsNodeKnown, with_kept_child, store_or, nodes_over};
 
+use crate::laws;
 use crate::node::{Node, Status};
 use crate::objectives::{least_floors, raise_floors};
+use crate::path::moved_store;
 use sm_flat::{Flat, Literal};
 use sm_frac::Frac;
+use sm_step::Short;
 use sm_store::Store;
 use std::alloc::{AllocError, Global};
 use std::marker::Model;
@@ -23,28 +25,32 @@ use std::marker::Model;
 /// The nodes whose own trees aren't refuted, in order of their numbers, and the node at which the log stands.
 #[derive(Drop)]
 pub(crate) struct Tree {
+    declared: Store,
     nodes: Vec<Node>,
     /// How many nodes were opened under another, which is the greatest number that a node had.
     opened: u64,
     focus: u64,
+    /// The store of the focus, while it is left. No other node has a store of its own.
+    store: Store,
 }
 
 impl Model for Tree {
     ghost use Rattle.std.specs.Prelude.{◌+◌};
-    ghost use Rattle.sm_rules.specs.Trees.{Tree as TreeView, IsNumbered};
+    ghost use Rattle.sm_rules.specs.Trees.{Tree as TreeView};
+    ghost use Rattle.sm_rules.specs.KeptNodes.{nodes_over, IsKept};
 
     ghost Value = { TreeView };
 
-    ghost view = { λ t. record { nodes = t.nodes.items; count = t.opened + 1; focus = t.focus } };
+    ghost view = { λ t. record { nodes = nodes_over t.declared t.nodes.items; count = t.opened + 1; focus = t.focus } };
 
-    ghost invariant = { λ t. IsNumbered (record { nodes = t.nodes.items; count = t.opened + 1; focus = t.focus }) };
+    ghost invariant = { λ t. IsKept t.declared t.nodes.items (t.opened + 1) t.focus t.store };
 }
 
 /// The place of the node of a number, by bisection.
-fn place_of(nodes: &[Node], number: u64) -> Option<usize>
+pub(crate) fn place_of(nodes: &[Node], number: u64) -> Option<usize>
     requires { AreRising nodes.now }
     ensures found { IfSome result (λ i. IsPlace nodes.now i number) }
-    ensures none { IfNone result (All (λ (n : NodeView). n.number ≢ number) nodes.now) }
+    ensures none { IfNone result (All (λ (n : KeptNode). n.number ≢ number) nodes.now) }
 {
     let mut low = 0;
     let mut high = nodes.len();
@@ -116,148 +122,81 @@ fn drop_refuted(nodes: &mut Vec<Node>, place: usize)
     }
 }
 
-/// The child that a literal opens, made of copies of its parent's store and floors.
-fn make_child(
-    flat: &Flat,
-    number: u64,
-    parent: u64,
-    store: Store,
-    floors: Vec<Frac>,
-    literal: &Literal,
-) -> Node
-    requires known { literal.now.var < length store }
-    requires store { IsStoreOf flat.now store }
-    requires floors { length floors.items ≡ length flat.now.goals }
-    ensures { result ≡ record { number = number; parent = parent; store = narrow store literal.now; floors = raised (map parts_of floors.items) (least_costs flat.now.goals (narrow store literal.now)); status = Status.Open } }
-{
-    let mut store = store;
-    let mut floors = floors;
-    store.narrow(literal);
-    raise_floors(&mut floors, flat.goals(), &store);
-    Node {
-        number,
-        parent,
-        store,
-        floors,
-        status: Status::Open,
-        spare: None,
-    }
-}
-
-/// The node has one child, of this literal, and keeps the spare copy of its store for the other.
-fn set_half(node: &mut Node, literal: &Literal, spare: Store)
-    requires spare { spare ≡ node.old.store }
-    requires known { literal.now.var < length spare }
-    requires bounded { unsigned_abs literal.now.bound ≤ 2 ^ 32 }
-    ensures { node.new ≡ record node.old { status = Status.Half literal.now } }
-{
-    node.status = Status::Half(*literal);
-    node.spare = Some(spare);
-}
-
-/// The node, which has one child of this literal, has two; gives the copy of its store that it kept for the second.
-fn set_split(node: &mut Node, first: &Literal) -> Store
-    requires { node.old.status ≡ Status.Half first.now }
-    ensures spare { result ≡ node.old.store }
-    ensures known { first.now.var < length result }
-    ensures node { node.new ≡ record node.old { status = Status.Split first.now } }
-{
-    node.status = Status::Split(*first);
-    node.spare.take().unwrap()
-}
-
-/// Opens the first child under the node at this place. The room for the other child and its store is taken too.
-fn open_first(
-    alloc: Global,
-    flat: &Flat,
-    nodes: &mut Vec<Node>,
-    place: usize,
-    number: u64,
-    literal: &Literal,
-) -> Result<(), AllocError>
-    requires place { place < length nodes.old.items }
-    requires node { IsNodeOf flat.now (at_place nodes.old.items place) }
-    requires open { (at_place nodes.old.items place).status ≡ Status.Open }
-    requires lawful { LawfulChild (at_place nodes.old.items place).store (at_place nodes.old.items place).status literal.now }
-    ensures ok { OnOk result (nodes.new.items ≡ with_child_at flat.now nodes.old.items place number literal.now) }
-    ensures err { OnErr result (nodes.new.items ≡ nodes.old.items) }
-{
-    let node = &nodes[place];
-    let parent = node.number();
-    let spare = node.store().copy(alloc)?;
-    let store = node.store().copy(alloc)?;
-    let floors = Vec::from_slice(alloc, node.floors())?;
-    nodes.reserve(2)?;
-    nodes.push(make_child(flat, number, parent, store, floors, literal))?;
-    set_half(&mut nodes[place], literal, spare);
-    Ok(())
-}
-
-/// Opens the second child under the node at this place.
-fn open_second(
-    alloc: Global,
-    flat: &Flat,
-    nodes: &mut Vec<Node>,
-    place: usize,
-    number: u64,
-    first: &Literal,
-    literal: &Literal,
-) -> Result<(), AllocError>
-    requires place { place < length nodes.old.items }
-    requires node { IsNodeOf flat.now (at_place nodes.old.items place) }
-    requires half { (at_place nodes.old.items place).status ≡ Status.Half first.now }
-    requires lawful { literal.now ≡ complement first.now }
-    ensures ok { OnOk result (nodes.new.items ≡ with_child_at flat.now nodes.old.items place number literal.now) }
-    ensures err { OnErr result (nodes.new.items ≡ nodes.old.items) }
-{
-    let node = &nodes[place];
-    let parent = node.number();
-    let floors = Vec::from_slice(alloc, node.floors())?;
-    nodes.reserve(1)?;
-    let store = set_split(&mut nodes[place], first);
-    nodes
-        .push(make_child(flat, number, parent, store, floors, literal))
-        .unwrap();
-    Ok(())
-}
-
-/// Opens a child under the node at this place.
-fn open_under(
-    alloc: Global,
-    flat: &Flat,
-    nodes: &mut Vec<Node>,
-    place: usize,
-    number: u64,
-    literal: &Literal,
-) -> Result<(), AllocError>
-    requires place { place < length nodes.old.items }
-    requires node { IsNodeOf flat.now (at_place nodes.old.items place) }
-    requires lawful { LawfulChild (at_place nodes.old.items place).store (at_place nodes.old.items place).status literal.now }
-    ensures ok { OnOk result (nodes.new.items ≡ with_child_at flat.now nodes.old.items place number literal.now) }
-    ensures err { OnErr result (nodes.new.items ≡ nodes.old.items) }
-{
-    match nodes[place].status() {
-        Status::Open => open_first(alloc, flat, nodes, place, number, literal),
-        Status::Half(first) => open_second(alloc, flat, nodes, place, number, &first, literal),
-        Status::Split(_) => unreachable!(),
-    }
-}
-
-/// The greatest-numbered node with one child, with the complement of that child's literal.
+/// The greatest-numbered node with one child, with that child's literal.
 fn last_half(nodes: &[Node]) -> Option<(u64, Literal)>
     requires { AreRising nodes.now }
-    ensures some { IfSome result (λ h. IsLastHalf nodes.now h.0 h.1) }
-    ensures none { IfNone result (All (λ (n : NodeView). HasOneChild n.status → ⊥) nodes.now) }
+    ensures some { IfSome result (λ h. IsLastHalf nodes.now h.0 (complement h.1) × ((node_at nodes.now h.0).status ≡ Status.Half h.1)) }
+    ensures none { IfNone result (All (λ (n : KeptNode). HasOneChild n.status → ⊥) nodes.now) }
 {
     let mut rest = nodes.len();
     while rest > 0 {
         rest -= 1;
         let node = &nodes[rest];
-        if let Some(literal) = node.other_literal() {
-            return Some((node.number(), literal));
+        if let Status::Half(first) = node.status() {
+            return Some((node.number(), first));
         }
     }
     None
+}
+
+/// Opens a child under the node at a place. The store becomes the child's: it is that of the node, or another is given in its place.
+fn open_under(
+    alloc: Global,
+    flat: &Flat,
+    nodes: &mut Vec<Node>,
+    store: &mut Store,
+    moved: Option<Store>,
+    place: usize,
+    number: u64,
+    literal: &Literal,
+) -> Result<(), AllocError>
+    requires place { place < length nodes.old.items }
+    requires takes { TakesChild (at_place nodes.old.items place).status }
+    requires floors { length (at_place nodes.old.items place).floors ≡ length flat.now.goals }
+    requires of { IsStoreOf flat.now (store_or moved store.old) }
+    requires known { literal.now.var < length (store_or moved store.old) }
+    ensures nodes { OnOk result (nodes.new.items ≡ with_kept_child flat.now nodes.old.items place number literal.now (narrow (store_or moved store.old) literal.now)) }
+    ensures store { OnOk result (store.new ≡ narrow (store_or moved store.old) literal.now) }
+    ensures err { OnErr result ((nodes.new.items ≡ nodes.old.items) × (store.new ≡ store.old)) }
+{
+    let parent = nodes[place].number();
+    let mut floors = Vec::from_slice(alloc, nodes[place].floors())?;
+    let literals = Short::from_slice(alloc, &[*literal])?;
+    nodes.reserve(1)?;
+    if let Some(other) = moved {
+        *store = other;
+    }
+    store.narrow(literal);
+    raise_floors(&mut floors, flat.goals(), store);
+    nodes[place].mark(literal);
+    nodes
+        .push(Node {
+            number,
+            parent,
+            literals,
+            floors,
+            status: Status::Open,
+        })
+        .unwrap();
+    Ok(())
+}
+
+/// Whether the literal may open a first child under an open node, whose store is the first of these, where there is one.
+fn splits_either(moved: &Option<Store>, store: &Store, literal: &Literal) -> bool
+    ensures { IsTrue result ↔ LawfulChild (store_or moved.now store.now) Status.Open literal.now }
+{
+    match moved {
+        Some(other) => laws::splits(other, literal),
+        None => laws::splits(store, literal),
+    }
+}
+
+/// Whether the literal is the complement of the other.
+fn is_complement(literal: &Literal, first: &Literal) -> bool
+    requires { unsigned_abs first.now.bound ≤ 2 ^ 32 }
+    ensures { IsTrue result ↔ (literal.now ≡ complement first.now) }
+{
+    *literal == first.complement()
 }
 
 impl Tree {
@@ -266,32 +205,50 @@ impl Tree {
         ensures root { IfOk result (λ t. t ≡ root_of flat.now (declared flat.now.vars)) }
         ensures limits { OnOk result (IsFlat flat.now) }
     {
-        let store = Store::declared(alloc, flat)?;
+        let declared = Store::declared(alloc, flat)?;
+        let store = declared.copy(alloc)?;
         let floors = least_floors(alloc, flat.goals(), &store)?;
         let mut nodes = Vec::new(alloc);
         nodes.push(Node {
             number: 0,
             parent: 0,
-            store,
+            literals: Short::new(alloc),
             floors,
             status: Status::Open,
-            spare: None,
         })?;
         Ok(Tree {
+            declared,
             nodes,
             opened: 0,
             focus: 0,
+            store,
         })
     }
 
-    /// The node of a number, where it is left.
-    pub(crate) fn node(&self, number: u64) -> Option<&Node>
-        ensures found { IfSome result (λ n. n.now ≡ node_at self.now.nodes number) }
-        ensures among { IfSome result (λ n. Contains self.now.nodes n.now) }
+    /// The status of the node of a number, where it is left.
+    pub(crate) fn status(&self, number: u64) -> Option<Status>
+        ensures found { IfSome result (λ s. s ≡ (node_at self.now.nodes number).status) }
         ensures none { IfNone result (node_at self.now.nodes number ≡ no_node) }
     {
         let place = place_of(&self.nodes, number)?;
-        Some(&self.nodes[place])
+        Some(self.nodes[place].status())
+    }
+
+    /// The floors of the node of a number, where it is left.
+    pub(crate) fn floors(&self, number: u64) -> Option<&[Frac]>
+        ensures found { IfSome result (λ fs. map parts_of fs.now ≡ (node_at self.now.nodes number).floors) }
+        ensures none { IfNone result (node_at self.now.nodes number ≡ no_node) }
+    {
+        let place = place_of(&self.nodes, number)?;
+        Some(self.nodes[place].floors())
+    }
+
+    /// The store of the focus, which is left.
+    pub(crate) fn store(&self) -> &Store
+        requires { (focus_of self.now).status ≡ Status.Open }
+        ensures { result.now ≡ (focus_of self.now).store }
+    {
+        &self.store
     }
 
     /// The number of the focus.
@@ -312,14 +269,14 @@ impl Tree {
     pub(crate) fn len(&self) -> usize
         ensures { result ≡ length self.now.nodes }
     {
-        self.nodes.len()
+        self.nodes.as_slice().len()
     }
 
     /// Whether no node is left.
     pub(crate) fn is_refuted(&self) -> bool
         ensures { IsTrue result ↔ IsRefuted self.now }
     {
-        self.nodes.is_empty()
+        self.nodes.as_slice().is_empty()
     }
 
     /// The greatest-numbered node with one child, with the complement of that child's literal.
@@ -327,7 +284,37 @@ impl Tree {
         ensures some { IfSome result (λ h. IsLastHalf self.now.nodes h.0 h.1) }
         ensures none { IfNone result (All (λ (n : NodeView). HasOneChild n.status → ⊥) self.now.nodes) }
     {
-        last_half(&self.nodes)
+        let (number, first) = last_half(&self.nodes)?;
+        Some((number, first.complement()))
+    }
+
+    /// Whether the literal may open a child under the node of a number.
+    pub(crate) fn is_lawful_child(
+        &self,
+        alloc: Global,
+        parent: u64,
+        literal: &Literal,
+    ) -> Result<bool, AllocError>
+        ensures { IfOk result (λ r. IsTrue r ↔ LawfulChild (node_at self.now.nodes parent).store (node_at self.now.nodes parent).status literal.now) }
+    {
+        let Some(place) = place_of(&self.nodes, parent) else {
+            return Ok(false);
+        };
+        match self.nodes[place].status() {
+            Status::Open => {
+                let moved = moved_store(
+                    alloc,
+                    &self.declared,
+                    &self.nodes,
+                    self.focus,
+                    &self.store,
+                    place,
+                )?;
+                Ok(splits_either(&moved, &self.store, literal))
+            }
+            Status::Half(first) => Ok(is_complement(literal, &first)),
+            Status::Split(_) => Ok(false),
+        }
     }
 
     /// Closes the focus: it is dropped, and with it each node above whose own tree is refuted then.
@@ -356,14 +343,29 @@ impl Tree {
         ensures ok { OnOk result (self.new ≡ open_child flat.now self.old parent literal.now) }
         ensures err { OnErr result (self.new ≡ self.old) }
     {
-        match place_of(&self.nodes, parent) {
-            Some(place) => {
-                open_under(alloc, flat, &mut self.nodes, place, number, literal)?;
-                self.opened = number;
-                self.focus = number;
-                Ok(())
-            }
-            None => unreachable!(),
-        }
+        let Some(place) = place_of(&self.nodes, parent) else {
+            unreachable!()
+        };
+        let moved = moved_store(
+            alloc,
+            &self.declared,
+            &self.nodes,
+            self.focus,
+            &self.store,
+            place,
+        )?;
+        open_under(
+            alloc,
+            flat,
+            &mut self.nodes,
+            &mut self.store,
+            moved,
+            place,
+            number,
+            literal,
+        )?;
+        self.opened = number;
+        self.focus = number;
+        Ok(())
     }
 }

@@ -1,4 +1,4 @@
-use Rattle.std.proofs.Common.{◌≡◌, ◌≤◌, ◌<◌, length}
+use Rattle.std.proofs.Common.{◌≤◌, ◌<◌, length}
 use Rattle.sm_flat.specs.Assignments.{point_of}
 use Rattle.sm_flat.specs.Goals.{no_goal}
 use Rattle.sm_rules.proofs.Fractions.{ends_none, past_from_test}

@@ -1,4 +1,4 @@
-use Rattle.std.proofs.Common.{arith, ap, length, ℕ, List}
+use Rattle.std.proofs.Common.{arith, ap, length, List}
 use Rattle.sm_flat.specs.declared.goal.Goal.{Goal}
 use Rattle.sm_flat.specs.Assignments.{point_of}
 use Rattle.sm_rules.proofs.Sums.{values_length}

@@ -1,4 +1,4 @@
-use Rattle.std.proofs.Common.{◌≡◌, ◌<◌, length, ◌∙◌, sym}
+use Rattle.std.proofs.Common.{◌∙◌}
 use Rattle.std.proofs.lemmas.List.{length-set}
 use Rattle.sm_rules.proofs.Sums.{raise_step}
 use Rattle.sm_rules.proofs.objectives.raise_floors.Goals as goal

@@ -1,4 +1,3 @@
-use Rattle.std.proofs.Common.{◌≡◌, true, IsTrue, sym}
 use Rattle.sm_frac.specs.Rational.{◌<ℚ◌}
 use Rattle.sm_rules.specs.Floors.{number_of}
 use Rattle.sm_rules.proofs.Fractions.{reaches_below}

@@ -1,5 +1,4 @@
-use Rattle.std.proofs.Common.{◌≡◌, ◌+◌, ◌-◌, ◌/◌, ◌<◌, ◌≤◌, ℕ, length, arith}
-use Rattle.sm_rules.specs.Places.{at_place}
+use Rattle.std.proofs.Common.{◌+◌, ◌-◌, ◌/◌, ◌<◌, ℕ, length, arith}
 use Rattle.sm_rules.proofs.Places.{at_read, low_moves, high_moves, none_between}
 use Rattle.sm_rules.proofs.tree.place_of.Goals as goal
 

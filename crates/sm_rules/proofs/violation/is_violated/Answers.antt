@@ -1,4 +1,4 @@
-use Rattle.std.proofs.Common.{◌≡◌, ◌<◌, length, rules}
+use Rattle.std.proofs.Common.{◌<◌, length, rules}
 use Rattle.sm_rules.proofs.Violating.{some_at, not_from, not_both}
 use Rattle.sm_rules.proofs.violation.is_violated.Goals as goal
 

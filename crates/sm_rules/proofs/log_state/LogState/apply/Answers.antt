@@ -1,6 +1,5 @@
-use Rattle.std.proofs.Common.{◌≡◌, rules, subst}
+use Rattle.std.proofs.Common.{rules, subst}
 use Rattle.sm_step.specs.declared.line.Line.{Line}
-use Rattle.sm_step.specs.declared.line.Line.TheVariants.{Verdict}
 use Rattle.sm_rules.specs.Laws.{Allowed, Lawful, LawfulVerdict}
 use Rattle.sm_rules.proofs.Kept.{of_after}
 use Rattle.sm_rules.proofs.Keeping.{sound_after, verdict_is_true}

@@ -1,27 +1,25 @@
 -- From what a check says to what its status says, and from the lines that a search put to the log that they are.
-use Rattle.std.proofs.Common.{◌≡◌, ◌++◌, ◌+◌, ◌<◌, ◌≤◌, ◌^◌, ℕ, List, [], ◌∷◌, length, drop, Option, Some, None, refl, sym, ap, ◌∙◌, subst, arith, ◌⊎◌, inl, inr, append_assoc, length-append}
-use Rattle.std.specs.Prelude.{IfSome, codes, map, All, true}
-use Rattle.std.specs.List.{flat_map}
-use Rattle.std.specs.Io.KnownBytes.{Appends}
+use Rattle.std.proofs.Common.{◌≡◌, ◌++◌, ◌≤◌, ℕ, List, length, drop, Option, Some, None, refl, sym, ◌∙◌, subst, arith, inl, inr, append_assoc, length-append}
+use Rattle.std.specs.Prelude.{IfSome, codes}
 use Rattle.sm_base.specs.Causes.{Rose}
 use Rattle.sm_flat.specs.Models.{FlatModel}
 use Rattle.sm_step.specs.declared.line.Line.{Line}
 use Rattle.sm_step.specs.declared.line.Line.TheVariants as line
 use Rattle.sm_step.specs.declared.verdict.Verdict.{Verdict}
-use Rattle.sm_step.specs.Text.{verdict_text, body_text, text_of}
+use Rattle.sm_step.specs.Text.{verdict_text, text_of}
 use Rattle.sm_rules.specs.declared.cause.Cause.{Cause}
 use Rattle.sm_rules.proofs.Kept.{of_start}
 use Rattle.sm_search.specs.declared.ending.Ending.{Ending}
-use Rattle.sm_search.specs.Went.{Place, begin, Went, texts}
+use Rattle.sm_search.specs.Went.{texts}
 use Rattle.sm_search.specs.Turns.{HasSolved}
-use Rattle.sm_check.specs.Replays.{cut, ReplaysTo, EndsIn, FailsAt}
+use Rattle.sm_check.specs.Replays.{FailsAt}
 use Rattle.sm_check.specs.Checks.{Proves, OfFile}
 use Rattle.sm_check.proofs.Ends.{cut_lines}
 use Rattle.sm_check.proofs.Truths.{log_is_true_on}
 use Rattle.early_model.specs.EarlyModels.{IsEarlyModel}
 use Rattle.sm_commands.specs.declared.stop.Stop.{Stop}
 use Rattle.sm_commands.specs.declared.stop.Stop.TheVariants.{Usage, ReadFault, TooLarge, Early, TooLong, Work, OutOfMemory}
-use Rattle.sm_commands.specs.Runs.{Given, Effects, checked_of, HasPutLog, IsLoadCause, IsTold, IsReported, stop_line, accepted_line, refused_line, IsVerdictLine, OfFiles, IsAccepted, IsRefused, IsAnswer, IsCheckStop, IsUntold, SaysOfSolve, SaysOfCheck, Says}
+use Rattle.sm_commands.specs.Runs.{Given, Effects, checked_of, HasPutLog, IsLoadCause, IsTold, IsReported, stop_line, accepted_line, refused_line, IsVerdictLine, IsAnswer, IsCheckStop, IsUntold, SaysOfSolve, SaysOfCheck, Says}
 
 -- ---- lines
 

@@ -1,11 +1,14 @@
 -- From what the parts of a run say to what its status says.
-use Rattle.std.proofs.Common.{◌≡◌, ℕ, ◌≤◌, ◌⊎◌, List, [], ◌∷◌, ◌++◌, Option, Some, None, false, refl, sym, ap, ◌∙◌, subst, arith, inl, inr, append-nil}
+use Rattle.std.proofs.Common.{◌≡◌, ℕ, ◌≤◌, ◌⊎◌, List, [], ◌++◌, Option, Some, None, false, sym, ap, ◌∙◌, subst, arith, inl, inr, append-nil, get_or}
 use Rattle.std.specs.Prelude.{IfSome, codes}
 use Rattle.std.specs.Io.KnownBytes.{Appends}
 use Rattle.sm_base.specs.Causes.{Rose}
 use Rattle.sm_base.specs.Bytes.{AppendsFront}
 use Rattle.sm_flat.specs.Models.{FlatModel}
-use Rattle.early_model.specs.EarlyModels.{IsEarlyModel}
+use Rattle.sm_kinds.specs.declared.var.Var.{Var}
+use Rattle.sm_kinds.specs.declared.var.VarKind.TheVariants.{Set, Real}
+use Rattle.early_model.specs.EarlyModels.{IsEarlyModel, AreSets}
+use Rattle.sm_search.specs.Refusals.{HasReal}
 use Rattle.sm_search.specs.declared.ending.Ending.{Ending}
 use Rattle.sm_search.specs.declared.ending.Ending.TheVariants.{Optimal, Satisfied, Infeasible}
 use Rattle.sm_search.specs.declared.refusal.WorkRefusal.{WorkRefusal}
@@ -16,7 +19,7 @@ use Rattle.sm_search.specs.Turns.{HasSolved}
 use Rattle.sm_commands.proofs.Checks.{put_log}
 use Rattle.sm_commands.specs.declared.stop.Stop.{Stop}
 use Rattle.sm_commands.specs.declared.stop.Stop.TheVariants.{Usage, ReadFault, TooLarge, Early, TooLong, Work, OutOfMemory}
-use Rattle.sm_commands.specs.Runs.{Given, Effects, model_of, OfText, IsSolved, IsStopped, IsStop, IsLoadCause, StopsBy, HasNoModel, IsTooLong, PutLine, stop_line, IsTold, IsReported, ending_status, refusal_status, IsFound, IsUnput, SaysOfSolve}
+use Rattle.sm_commands.specs.Runs.{Given, Effects, model_of, IsSolved, IsStopped, IsStop, IsLoadCause, StopsBy, HasNoModel, IsTooLong, PutLine, stop_line, IsReported, ending_status, refusal_status, IsFound, IsUnput, SaysOfSolve}
 
 -- ---- what was put
 
@@ -62,6 +65,13 @@ stop_of_halt given e name m h OutOfMemory asked holds stopped unput by = unput b
 pub none_of : (held : Option (List ℕ)) (items : List ℕ) → IfSome held (λ file. items ≡ file) → ((m : FlatModel) → IsEarlyModel items m → ⊥) → IfSome held (λ text. (m : FlatModel) → IsEarlyModel text m → ⊥)
 none_of None items same none = tt
 none_of (Some file) items same none = let P : List ℕ → Type 0 = λ t. (m : FlatModel) → IsEarlyModel t m → ⊥ in subst P same none
+
+-- no variable of an early model is real
+pub no_reals : (vars : List Var) → AreSets vars → HasReal vars → ⊥
+no_reals vars sets (k, v, lt, same, real) =
+    let set : (get_or vars k v).kind ≡ Set = sets k v lt in
+    let wrong : Set ≡ Real = sym (rw same at set) ∙ real in
+    cc
 
 -- ---- what each status says
 

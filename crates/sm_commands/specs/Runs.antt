@@ -1,5 +1,5 @@
 -- What a run is asked for, what it puts, and why it stops.
-use Rattle.std.specs.Prelude.{MatchOption, pos, ◌^◌, ◌≡◌, ℕ, ◌+◌, ◌<◌, ◌≤◌, ◌⊎◌, List, [], ◌∷◌, ◌++◌, length, take, Option, Some, None, IfSome, IsNone, if◌then◌else◌, codes, Bool, true, false, not, ◌&&◌, ◌==◌}
+use Rattle.std.specs.Prelude.{MatchOption, pos, ◌^◌, ◌≡◌, ℕ, ◌<◌, ◌⊎◌, List, [], ◌∷◌, ◌++◌, length, Option, Some, None, IfSome, if◌then◌else◌, codes, Bool, true, false, not, ◌&&◌, ◌==◌}
 use Rattle.std.specs.Str.{bytes_eq}
 use Rattle.std.specs.Io.KnownBytes.{Appends}
 use Rattle.sm_base.specs.Causes.{Rose}
@@ -11,7 +11,7 @@ use Rattle.sm_search.specs.declared.ending.Ending.TheVariants.{Optimal, Satisfie
 use Rattle.sm_search.specs.declared.refusal.WorkRefusal.{WorkRefusal}
 use Rattle.sm_search.specs.declared.refusal.WorkRefusal.TheVariants as refusal
 use Rattle.sm_search.specs.Went.{begin, Stopped}
-use Rattle.sm_search.specs.Turns.{EndsIn as IsOfEnding}
+use Rattle.sm_search.specs.Turns.{IsVerdictOf}
 use Rattle.sm_step.specs.declared.verdict.Verdict.{Verdict}
 use Rattle.sm_base.specs.Whole.{whole_text}
 use Rattle.sm_step.specs.declared.line.Line.{Line}
@@ -89,7 +89,7 @@ pub record HasPutLog (m : FlatModel) (e : Effects) (ending : Ending) : Type 0 wh
   pub put : Appends e.put_before e.put_now log
   pub verdict : Verdict
   pub proves : Proves m log verdict
-  pub ends : IsOfEnding ending verdict
+  pub ends : IsVerdictOf ending verdict
 
 -- the model is the text's, and a log of it was put that proves a verdict of this ending
 pub record IsSolved (given : Given) (e : Effects) (ending : Ending) : Type 0 where

@@ -1,7 +1,7 @@
 //! The top call.
 ghost use Rattle.std.specs.Prelude.{◌≡◌, ◌≤◌, ◌⊎◌, ℕ, List, None, Err, map, string_bytes, IfOk, IfErr, IfSome};
 ghost use Rattle.std.specs.Option.{option_copied};
-ghost use Rattle.early_model.specs.EarlyModels.{IsEarlyModel};
+ghost use Rattle.early_model.specs.EarlyModels.{IsEarlyModel, AreSets};
 ghost use Rattle.sm_commands.specs.declared.stop.Stop.TheVariants.{Usage as Misused};
 ghost use Rattle.sm_commands.specs.Runs.{is_file, model_of, checked_of, IsSolved, IsStop, IsLoadCause, StopsBy, IsTold, IsReported, ending_status, SaysOfSolve, SaysOfCheck, Says};
 
@@ -10,7 +10,7 @@ use crate::stop::Stop;
 use early_model::read;
 use sm_base::{ReadRefusal, Shelf, Sink, put_all, read_all};
 use sm_flat::Flat;
-use sm_search::{Ending, Halt, WorkRefusal, solve};
+use sm_search::{Ending, Halt, SolveRefusal, WorkRefusal, solve};
 use std::alloc::Global;
 
 /// How many bytes a model file has at most.
@@ -43,6 +43,7 @@ fn model_of(words: &[String]) -> Option<&str>
 /// The model of a file.
 pub(crate) fn load<F: Shelf>(alloc: Global, shelf: &mut F, name: &str) -> Result<Flat, Stop>
     ensures ok { IfOk result (λ m. IfSome (F.held shelf.old name.now) (λ text. IsEarlyModel text m)) }
+    ensures all_set { IfOk result (λ m. AreSets m.vars) }
     ensures cause { IfErr result (IsLoadCause (F.held shelf.old name.now) (F.faults shelf.old) (F.faults shelf.new)) }
     ensures same { (q : List ℕ) → F.held shelf.new q ≡ F.held shelf.old q }
     ensures later { F.faults shelf.old ≤ F.faults shelf.new }
@@ -73,7 +74,7 @@ fn stop_of(halt: Halt) -> Stop
 }
 
 /// Reads the model and puts the log of its search.
-#[tactic(auto, using(crate::proofs::Runs::solved_of, crate::proofs::Runs::stop_of_load, crate::proofs::Runs::stop_of_halt))]
+#[tactic(auto, using(crate::proofs::Runs::solved_of, crate::proofs::Runs::stop_of_load, crate::proofs::Runs::stop_of_halt, crate::proofs::Runs::no_reals))]
 fn work<F: Shelf, S: Sink>(
     alloc: Global,
     words: &[String],
@@ -105,7 +106,9 @@ fn work<F: Shelf, S: Sink>(
     let flat = load(alloc, shelf, name)?;
     match solve(alloc, &flat, out) {
         Ok(ending) => Ok(ending),
-        Err(halt) => Err(stop_of(halt)),
+        Err(SolveRefusal::Halted(halt)) => Err(stop_of(halt)),
+        // No variable of an early model is real.
+        Err(SolveRefusal::RealVariable) => unreachable!(),
     }
 }
 

@@ -11,7 +11,7 @@ use Rattle.sm_frac.proofs.IntRing.{pos_abs}
 use Rattle.sm_kinds.specs.declared.literal.Literal.{Literal}
 use Rattle.sm_flat.specs.declared.goal.Goal.{Goal}
 use Rattle.sm_kinds.specs.declared.var.VarKind.{VarKind}
-use Rattle.sm_kinds.specs.declared.var.VarKind.TheVariants.{Set}
+use Rattle.sm_kinds.specs.declared.var.VarKind.TheVariants.{Set, Int, Real}
 use Rattle.sm_kinds.specs.Literals.{complement}
 use Rattle.sm_flat.specs.Limits.{IsFlat}
 use Rattle.sm_kinds.specs.Vars.{IsDomain}
@@ -29,12 +29,13 @@ use Rattle.sm_rules.specs.Nodes.{NodeView, TakesChild, LawfulChild, with_child}
 use Rattle.sm_rules.specs.Trees.{node_at, set_node, without_node, pruned, focus_of, close_focus, child_of}
 use Rattle.sm_rules.specs.States.{State}
 use Rattle.sm_rules.specs.Laws.{Allowed}
-use Rattle.sm_rules.specs.Steps.{after, start}
+use Rattle.sm_rules.specs.Transitions.{with_tree, after, start}
 use Rattle.sm_rules.specs.Sound.{Sound, IsOf, IsNodeOf}
+use Rattle.sm_rules.proofs.NodeLists.{all_set, all_without, all_pruned}
 use Rattle.sm_rules.proofs.Keeping.{all_at, sound_after, sound_start, verdict_is_true}
 use Rattle.sm_step.specs.Grammar.{IsLiteral}
-use Rattle.sm_search.specs.Fits.{AreFilled, IsFilled, IsRaised, IsOnly, IsFit, IsOwn, IsNear}
-use Rattle.sm_search.proofs.NodeLists.{all_set, all_without, all_pruned, NotOpen, none_open_set, none_open_without, none_open, only_of_none}
+use Rattle.sm_search.specs.Fits.{AreFilled, IsFilled, IsRaised, IsOnly, AreDiscrete, IsFit, IsOwn, IsNear}
+use Rattle.sm_search.proofs.NodeLists.{NotOpen, none_open_set, none_open_without, none_open, only_of_none}
 
 -- ---- values left
 
@@ -124,28 +125,30 @@ module _ (m : FlatModel) (s : State) (fit : IsFit m s) where
       let none = none_after parent new (with_child_not_open old.status l) first in
       record {
         of = of;
+        discrete = fit.discrete;
         sound = sound;
         says = rw ok.due.running tt;
         whole = fit.whole;
         only = All-push (λ (n : NodeView). IsOnly s.main.count n) (set_node s.main.nodes parent new) child (only_of_none s.main.count (set_node s.main.nodes parent new) none) (λ e. refl);
-        filled = All-push (λ (n : NodeView). IsFilled n.store n.status) (set_node s.main.nodes parent new) child (all_set (λ (n : NodeView). IsFilled n.store n.status) s.main.nodes parent new (parent_filled old.store old.status l ok.law (filled_at parent ok.due.order.takes)) fit.filled) (child_filled old.store old.status l ok.law (filled_at parent ok.due.order.takes));
-        raised = All-push (λ (n : NodeView). IsRaised m n.store n.floors n.status) (set_node s.main.nodes parent new) child (all_set (λ (n : NodeView). IsRaised m n.store n.floors n.status) s.main.nodes parent new (parent_raised m old.store old.floors old.status l) fit.raised) (raised_ge old.floors (least_costs m.goals (narrow old.store l)) (rw (length-map {B = ℤ × ℤ} m.goals (λ g. (least_cost (narrow old.store l) g, pos 1))) node.floors) node.positive (least_positive m.goals (narrow old.store l)));
-        near = All-push (λ (n : NodeView). IsNear n.status) (set_node s.main.nodes parent new) child (all_set (λ (n : NodeView). IsNear n.status) s.main.nodes parent new (parent_near old.store old.status l (omega (arith, node.store.wide, fit.of.flat.vars.few)) ok.law) fit.near) tt;
+        filled = All-push (λ (n : NodeView). IsFilled n.store n.status) (set_node s.main.nodes parent new) child (all_set (λ (n : NodeView). IsFilled n.store n.status) s.main.nodes parent new (λ _. parent_filled old.store old.status l ok.law (filled_at parent ok.due.order.takes)) fit.filled) (child_filled old.store old.status l ok.law (filled_at parent ok.due.order.takes));
+        raised = All-push (λ (n : NodeView). IsRaised m n.store n.floors n.status) (set_node s.main.nodes parent new) child (all_set (λ (n : NodeView). IsRaised m n.store n.floors n.status) s.main.nodes parent new (λ _. parent_raised m old.store old.floors old.status l) fit.raised) (raised_ge old.floors (least_costs m.goals (narrow old.store l)) (rw (length-map {B = ℤ × ℤ} m.goals (λ g. (least_cost (narrow old.store l) g, pos 1))) node.floors) node.positive (least_positive m.goals (narrow old.store l)));
+        near = All-push (λ (n : NodeView). IsNear n.status) (set_node s.main.nodes parent new) child (all_set (λ (n : NodeView). IsNear n.status) s.main.nodes parent new (λ _. parent_near old.store old.status l (omega (arith, node.store.wide, fit.of.flat.vars.few)) ok.law) fit.near) tt;
       }
     where
       none_after : (parent : ℕ) (new : NodeView) → NotOpen new → (parent ≡ s.main.focus) ⊎ ((focus_of s.main).status ≢ Open) → All NotOpen (set_node s.main.nodes parent new)
       none_after parent new not_open (inl at) = rw at (none_open_set s.main.nodes s.main.focus new not_open fit.of.numbered.rising fit.only)
-      none_after parent new not_open (inr closed) = all_set NotOpen s.main.nodes parent new not_open (none_open s.main.nodes s.main.focus closed fit.of.numbered.rising fit.only)
+      none_after parent new not_open (inr closed) = all_set NotOpen s.main.nodes parent new (λ _. not_open) (none_open s.main.nodes s.main.focus closed fit.of.numbered.rising fit.only)
 
-  closed : (l : Line) → after m s l ≡ record s { main = close_focus s.main } → s.verdict ≡ None → IsOf m (after m s l) → Sound m (λ _. true) (after m s l) → IsFit m (after m s l)
+  closed : (l : Line) → after m s l ≡ with_tree s (close_focus s.main) → s.verdict ≡ None → IsOf m (after m s l) → Sound m (λ _. true) (after m s l) → IsFit m (after m s l)
   closed l e running of sound =
       let ns = without_node s.main.nodes s.main.focus in
       let none = all_pruned NotOpen ns (none_open_without s.main.nodes s.main.focus fit.of.numbered.rising fit.only) in
-      let new : State = record s { main = close_focus s.main } in
+      let new : State = with_tree s (close_focus s.main) in
       let of' : IsOf m new = rw e at of in
       let sound' : Sound m (λ _. true) new = rw e at sound in
       let fit' : IsFit m new = record {
         of = of';
+        discrete = fit.discrete;
         sound = sound';
         says = rw running tt;
         whole = fit.whole;
@@ -160,16 +163,18 @@ pub fit_after : (m : FlatModel) (s : State) (l : Line) → IsFit m s → IsOwn s
 fit_after m s l fit first ok of = by_line l first ok of (sound_after m (λ _. true) s l fit.of ok (λ i d lt. refl) fit.sound)
   where
     by_line : (l : Line) → IsOwn s l → Allowed m s l → IsOf m (after m s l) → Sound m (λ _. true) (after m s l) → IsFit m (after m s l)
-    by_line (line.Header version) first ok of sound = record { of = of; sound = sound; says = rw ok.due.running tt; whole = fit.whole; only = fit.only; filled = fit.filled; raised = fit.raised; near = fit.near }
+    by_line (line.Header version) first ok of sound = record { of = of; discrete = fit.discrete; sound = sound; says = rw ok.due.running tt; whole = fit.whole; only = fit.only; filled = fit.filled; raised = fit.raised; near = fit.near }
     by_line (line.Node id parent l) first ok of sound = opened m s fit id parent l first ok of sound
     by_line line.CloseFloor first ok of sound = closed m s fit line.CloseFloor refl ok.due.running of sound
     by_line (line.Violated k) first ok of sound = closed m s fit (line.Violated k) refl ok.due.running of sound
-    by_line (line.Sol d vs) first ok of sound = record { of = of; sound = sound; says = rw ok.due.running tt; whole = first; only = fit.only; filled = fit.filled; raised = fit.raised; near = fit.near }
-    by_line (line.Verdict v) first ok of sound = record { of = of; sound = sound; says = verdict_is_true m (λ _. true) s v fit.sound ok.law; whole = fit.whole; only = fit.only; filled = fit.filled; raised = fit.raised; near = fit.near }
+    by_line (line.Sol d vs) first ok of sound = record { of = of; discrete = fit.discrete; sound = sound; says = rw ok.due.running tt; whole = first; only = fit.only; filled = fit.filled; raised = fit.raised; near = fit.near }
+    by_line (line.Verdict v) first ok of sound = record { of = of; discrete = fit.discrete; sound = sound; says = verdict_is_true m (λ _. true) s v fit.sound ok.law; whole = fit.whole; only = fit.only; filled = fit.filled; raised = fit.raised; near = fit.near }
     by_line _ first ok of sound = absurd ok.law
 
 some_value : (kind : VarKind) (values : List ℤ) → IsDomain kind values → 0 < length values
 some_value Set values domain = domain.some
+some_value Int values domain = let two = domain.two in omega (arith, two)
+some_value Real values domain = let two = domain.two in omega (arith, two)
 
 declared_filled : (m : FlatModel) → IsFlat m → AreFilled (declared m.vars)
 declared_filled m flat i lt =
@@ -177,9 +182,10 @@ declared_filled m flat i lt =
     let v = var_at m.vars i in
     rw (extent_declared m.vars i) (some_value v.kind v.values (flat.vars.each i no_var lt'))
 
-pub fit_start : (m : FlatModel) → IsOf m (start m) → IsFit m (start m)
-fit_start m of = record {
+pub fit_start : (m : FlatModel) → AreDiscrete m.vars → IsOf m (start m) → IsFit m (start m)
+fit_start m discrete of = record {
   of = of;
+  discrete = discrete;
   sound = sound_start m (λ _. true) of.flat;
   says = tt;
   whole = tt;

@@ -12,7 +12,7 @@ use Rattle.sm_step.specs.Text.{text_of, body_text}
 use Rattle.sm_step.specs.Grammar.{IsLine}
 use Rattle.sm_rules.specs.States.{State}
 use Rattle.sm_rules.specs.Laws.{Allowed}
-use Rattle.sm_rules.specs.Steps.{after, Replays}
+use Rattle.sm_rules.specs.Transitions.{after, Replays}
 use Rattle.sm_search.specs.declared.refusal.WorkRefusal.{WorkRefusal}
 use Rattle.sm_search.specs.declared.refusal.WorkRefusal.TheVariants.{WriteFault, LogTooLong, OutOfMemory}
 use Rattle.sm_step.specs.declared.line.Line.TheVariants as line

@@ -1,13 +1,10 @@
 -- Each line that the loop puts is one of the grammar.
-use Rattle.std.proofs.Common.{◌≡◌, ℕ, ◌+◌, ◌*◌, ◌^◌, ◌<◌, ◌≤◌, List, [], ◌∷◌, ◌++◌, length, Option, Some, None, ℤ, pos, negsuc, suc, refl, sym, ap, ◌∙◌, subst, arith, length-append, FitsSigned}
-use Rattle.std.specs.Prelude.{◌==◌, ◌≤ℤ◌, All, codes, map, unsigned_abs, Bool, true, false, cond, slice_get, MatchOption}
-use Rattle.std.specs.Int.{◌∣◌, w128}
-use Rattle.std.specs.Fmt.{decimal}
+use Rattle.std.proofs.Common.{◌≡◌, ℕ, ◌+◌, ◌*◌, ◌^◌, ◌<◌, ◌≤◌, List, [], ◌∷◌, ◌++◌, length, Option, Some, None, ℤ, pos, negsuc, suc, refl, ap, subst, arith, length-append}
+use Rattle.std.specs.Prelude.{◌==◌, All, codes, map, unsigned_abs, Bool, true, false, cond, MatchOption}
 use Rattle.std.proofs.lemmas.Int.{ints}
 use Rattle.std.proofs.lemmas.Fmt.{length-decimal-le_wide}
 use Rattle.std.proofs.Math.Nat.{eq-one_of_dvd-one}
 use Rattle.std.proofs.lemmas.Option.{slice_get_within}
-use Rattle.std.proofs.lemmas.List.{length-map}
 use Rattle.std.proofs.lemmas.List.Elements.{All-head, All-tail, All-nil, All-cons}
 use Rattle.sm_base.specs.Whole.{whole_text}
 use Rattle.sm_frac.specs.declared.fraction.Frac.{Frac}
@@ -26,8 +23,8 @@ use Rattle.sm_step.specs.declared.verdict.Verdict.{Verdict}
 use Rattle.sm_step.specs.declared.verdict.Verdict.TheVariants as verdict
 use Rattle.sm_step.specs.Verdicts.{parts_of}
 use Rattle.sm_step.specs.PartText.{test_text, literal_text, fraction_text, each_after, spaced, value_text}
-use Rattle.sm_step.specs.Text.{verdict_text, body_text, text_of}
-use Rattle.sm_step.specs.Grammar.{IsWhole, IsLiteral, AreInLowestTerms, AreValues, IsVerdict, IsInRange, IsShort, IsLine}
+use Rattle.sm_step.specs.Text.{body_text, text_of}
+use Rattle.sm_step.specs.Grammar.{IsWhole, IsLiteral, IsInRange, IsShort, IsLine}
 use Rattle.sm_rules.specs.Nodes.{NodeView, TakesChild}
 use Rattle.sm_rules.specs.Trees.{node_at}
 use Rattle.sm_rules.specs.States.{State}

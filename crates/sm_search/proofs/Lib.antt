@@ -1,8 +1,10 @@
 pub mod NodeLists
+pub mod Sizes
 pub mod Weights
 pub mod Fits
 pub mod Leaves
 pub mod Goings
+pub mod Moving
 pub mod Splitting
 pub mod Lines
 pub mod Solved

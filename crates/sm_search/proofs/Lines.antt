@@ -12,7 +12,9 @@ use Rattle.sm_flat.specs.Assignments.{point_of}
 use Rattle.sm_flat.specs.Assignments.{Numbers}
 use Rattle.sm_flat.specs.Goals.{IsBetter, HasValuesBy, HasValues}
 use Rattle.sm_flat.specs.Solutions.{Solves, Fits}
-use Rattle.sm_store.specs.Stores.{Extent, least_of, fixed_point, IsStoreOf}
+use Rattle.sm_kinds.specs.declared.var.VarKind.TheVariants.{Real}
+use Rattle.sm_kinds.specs.Vars.{no_var}
+use Rattle.sm_store.specs.Stores.{Extent, extent_at, least_of, fixed_point, IsStoreOf}
 use Rattle.std.proofs.lemmas.Int.{ints}
 use Rattle.std.proofs.lemmas.List.{length-map}
 use Rattle.sm_step.specs.declared.line.Line.{Line}
@@ -32,14 +34,15 @@ use Rattle.sm_rules.specs.Halves.{HasOneChild, IsLastHalf}
 use Rattle.sm_rules.specs.Violations.{IsViolated}
 use Rattle.sm_rules.specs.States.{State}
 use Rattle.sm_rules.specs.Laws.{BeatsBest, IsNextBest, AsksForAny, LawfulVerdict, Allowed}
-use Rattle.sm_rules.specs.Steps.{after, start, IsRefusedFor}
+use Rattle.sm_rules.specs.Transitions.{after, start, IsRefusedFor}
 use Rattle.sm_rules.specs.Sound.{IsNodeOf, IsBestOf}
 use Rattle.sm_rules.proofs.Keeping.{all_at, goals_known}
 use Rattle.sm_search.specs.Fits.{AreFilled, IsFilled, IsRaised, IsFit, IsRunning, IsAtOpen}
-use Rattle.sm_search.specs.Leaves.{AreAllFixed, NoneUnfixed, first_values, IsSolvedLeaf, FailsAt, whole_values}
+use Rattle.sm_search.specs.Leaves.{AreAllFixed, NoneUnfixed, first_values, IsSolvedLeaf, FailsConstraint, whole_values}
 use Rattle.sm_search.specs.Turns.{GoesOn, IsReached}
 use Rattle.sm_search.specs.Weights.{weight, nodes_weight}
 use Rattle.sm_search.proofs.Weights.{node_falls, close_falls}
+use Rattle.sm_search.proofs.Sizes.{fixed_of}
 use Rattle.sm_search.proofs.Leaves.{point_is, ends_leaf, better_irrefl, fits_leaf, assignment_leaf, violated_leaf}
 use Rattle.sm_search.specs.Picks.{Splits}
 use Rattle.sm_search.proofs.NodeLists.{none_open, refuted_of}
@@ -56,7 +59,7 @@ pub allow_header : (m : FlatModel) → Allowed m (start m) (line.Header 1)
 allow_header m = record { due = record { running = refl; order = refl }; law = refl }
 
 lawful_open : (store : List Extent) (status : Status) (l : Literal) → status ≡ Open → Splits store l → LawfulChild store status l
-lawful_open store status l e splits = rw e (splits.first, splits.second)
+lawful_open store status l e splits = rw e (splits.first, splits.second, λ real. splits.first.changes (rw real refl))
 
 takes_open : (status : Status) → status ≡ Open → TakesChild status
 takes_open status e = rw e tt
@@ -102,14 +105,14 @@ refuted_end m s fit closed none =
 running_after : (s : State) (main : Tree) → IsRunning s → IsRunning (record s { main = main })
 running_after s main going = record { begun = going.begun; running = going.running }
 
-pub goes_on_node : (m : FlatModel) (s : State) (id parent : ℕ) (l : Literal) → IsRunning s → Allowed m s (line.Node id parent l) → GoesOn s (after m s (line.Node id parent l))
-goes_on_node m s id parent l going ok = record { going = record { begun = going.begun; running = going.running }; falls = node_falls m s id parent l ok }
+pub goes_on_node : (m : FlatModel) (s : State) (id parent : ℕ) (l : Literal) → IsFit m s → IsRunning s → Allowed m s (line.Node id parent l) → GoesOn s (after m s (line.Node id parent l))
+goes_on_node m s id parent l fit going ok = record { going = record { begun = going.begun; running = going.running }; falls = node_falls m s id parent l fit ok }
 
-pub goes_on_split : (m : FlatModel) (s : State) (id : ℕ) (l : Literal) → IsAtOpen s → id ≡ s.main.count → Splits (focus_of s.main).store l → GoesOn s (after m s (line.Node id s.main.focus l))
-goes_on_split m s id l at next splits = goes_on_node m s id s.main.focus l at.going (allow_split m s id l at next splits)
+pub goes_on_split : (m : FlatModel) (s : State) (id : ℕ) (l : Literal) → IsFit m s → IsAtOpen s → id ≡ s.main.count → Splits (focus_of s.main).store l → GoesOn s (after m s (line.Node id s.main.focus l))
+goes_on_split m s id l fit at next splits = goes_on_node m s id s.main.focus l fit at.going (allow_split m s id l at next splits)
 
-pub goes_on_second : (m : FlatModel) (s : State) (id parent : ℕ) (l : Literal) → IsRunning s → id ≡ s.main.count → IsLastHalf s.main.nodes parent l → GoesOn s (after m s (line.Node id parent l))
-goes_on_second m s id parent l going next half = goes_on_node m s id parent l going (allow_second m s id parent l going next half)
+pub goes_on_second : (m : FlatModel) (s : State) (id parent : ℕ) (l : Literal) → IsFit m s → IsRunning s → id ≡ s.main.count → IsLastHalf s.main.nodes parent l → GoesOn s (after m s (line.Node id parent l))
+goes_on_second m s id parent l fit going next half = goes_on_node m s id parent l fit going (allow_second m s id parent l going next half)
 
 pub goes_on_close : (m : FlatModel) (s : State) → IsAtOpen s → GoesOn s (after m s line.CloseFloor)
 goes_on_close m s at = record { going = record { begun = at.going.begun; running = at.going.running }; falls = close_falls s.main at.is_open }
@@ -140,11 +143,16 @@ open_filled m s fit at =
     let P : Status → Type 0 = λ x. IsFilled (focus_of s.main).store x in
     subst P at.is_open all
 
-pub all_fixed : (m : FlatModel) (s : State) → IsFit m s → IsAtOpen s → NoneUnfixed (focus_of s.main).store → AreAllFixed (focus_of s.main).store
-all_fixed m s fit at none i lt = let a = open_filled m s fit at i lt in let b = none i lt in omega arith
-
 pub store_of : (m : FlatModel) (s : State) → IsFit m s → IsAtOpen s → IsStoreOf m (focus_of s.main).store
 store_of m s fit at = (open_node m s fit at).store
+
+pub all_fixed : (m : FlatModel) (s : State) → IsFit m s → IsAtOpen s → NoneUnfixed (focus_of s.main).store → AreAllFixed (focus_of s.main).store
+all_fixed m s fit at none i lt =
+    let of = store_of m s fit at in
+    let part = of.parts i lt in
+    let e = extent_at (focus_of s.main).store i in
+    let discrete : e.kind ≢ Real = rw part.kind (fit.discrete i no_var (omega (arith, of.wide, lt))) in
+    fixed_of e.kind e.values discrete part.ordered (open_filled m s fit at i lt) (none i lt)
 
 solves_leaf : (m : FlatModel) (store : List Extent) (a : Numbers) → IsStoreOf m store → IsSolvedLeaf m store a → Solves m (point_of a)
 solves_leaf m store a of leaf =
@@ -168,7 +176,7 @@ beats_none m s a b fit at leaf positive none =
     let node = open_node m s fit at in
     let e : point_of a ≡ fixed_point n.store = ap point_of leaf.is ∙ point_is n.store in
     let P : Point → Type 0 = λ p. IsBetter m p (point_of b) → ⊥ in
-    ends_leaf m n.store n.floors (point_of b) leaf.fixed (goals_known m n.store fit.of.flat node.store.wide) node.floors (open_raised m s fit at) positive (subst P e none)
+    ends_leaf m n.store n.floors (point_of b) (λ i lt. (node.store.parts i lt).ordered) leaf.fixed (goals_known m n.store fit.of.flat node.store.wide) node.floors (open_raised m s fit at) positive (subst P e none)
 
 best_positive : (m : FlatModel) (s : State) (b : Numbers) → s.best ≡ Some b → IsFit m s → pos 0 <ℤ b.denominator
 best_positive m s b e fit =
@@ -227,7 +235,7 @@ some_at [] k lt = absurd (omega arith)
 some_at (x ∷ xs) zero lt = (x, refl)
 some_at (x ∷ xs) (suc k) lt = some_at xs k (omega arith)
 
-pub violated_at : (m : FlatModel) (s : State) (a : Numbers) (k : ℕ) → IsFit m s → IsAtOpen s → AreAllFixed (focus_of s.main).store → a ≡ record { denominator = pos 1; values = first_values (focus_of s.main).store } → FailsAt m a k → IsViolated m (focus_of s.main).store k
+pub violated_at : (m : FlatModel) (s : State) (a : Numbers) (k : ℕ) → IsFit m s → IsAtOpen s → AreAllFixed (focus_of s.main).store → a ≡ record { denominator = pos 1; values = first_values (focus_of s.main).store } → FailsConstraint m a k → IsViolated m (focus_of s.main).store k
 violated_at m s a k fit at fixed is fails =
     let some = some_at m.constraints k fails.known in
     let e : point_of a ≡ fixed_point (focus_of s.main).store = ap point_of is ∙ point_is (focus_of s.main).store in

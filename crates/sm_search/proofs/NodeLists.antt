@@ -1,5 +1,5 @@
--- What holds of each node of a list holds of each of a changed one.
-use Rattle.std.proofs.Common.{◌≡◌, ◌≢◌, ℕ, suc, ◌<◌, Bool, true, false, cond, List, [], ◌∷◌, get_or, refl, sym, ◌∙◌, arith}
+-- Lists of nodes of which at most one is open.
+use Rattle.std.proofs.Common.{◌≡◌, ◌≢◌, ℕ, ◌<◌, Bool, true, false, cond, List, [], ◌∷◌, get_or, refl, sym, ◌∙◌, arith}
 use Rattle.std.specs.Prelude.{All, AllPairs, ◌==◌}
 use Rattle.std.proofs.lemmas.List.Elements.{All-head, All-tail, All-cons, All-nil}
 use Rattle.std.proofs.lemmas.Bool.Decides.{nat_tests}
@@ -7,7 +7,8 @@ use Rattle.sm_kinds.specs.declared.literal.Literal.{Literal}
 use Rattle.sm_rules.specs.declared.node.Status.{Status}
 use Rattle.sm_rules.specs.declared.node.Status.TheVariants.{Open, Half, Split}
 use Rattle.sm_rules.specs.Nodes.{NodeView, is_split}
-use Rattle.sm_rules.specs.Trees.{node_at, set_node, without_node, is_done, pruned}
+use Rattle.sm_rules.specs.Trees.{node_at, set_node, without_node, pruned}
+use Rattle.sm_rules.proofs.Places.{rising_head, rising_tail}
 
 eq_true : (x y : ℕ) → (x == y) ≡ true → x ≡ y
 eq_true x y e = grind (arith, nat_tests)
@@ -15,38 +16,7 @@ eq_true x y e = grind (arith, nat_tests)
 eq_false : (x y : ℕ) → (x == y) ≡ false → x ≢ y
 eq_false x y e = grind (arith, nat_tests)
 
-pub all_set : (P : NodeView → Type 0) (ns : List NodeView) (k : ℕ) (new : NodeView) → P new → All P ns → All P (set_node ns k new)
-all_set P [] k new here all = all
-all_set P (n ∷ ns) k new here all = by_test (n.number == k) (all_set P ns k new here (All-tail P n ns all))
-  where
-    by_test : (b : Bool) → All P (set_node ns k new) → All P (cond b (new ∷ ns) (n ∷ set_node ns k new))
-    by_test true rest = All-cons P new ns here (All-tail P n ns all)
-    by_test false rest = All-cons P n (set_node ns k new) (All-head P n ns all) rest
-
-pub all_without : (P : NodeView → Type 0) (ns : List NodeView) (k : ℕ) → All P ns → All P (without_node ns k)
-all_without P [] k all = all
-all_without P (n ∷ ns) k all = by_test (n.number == k) (all_without P ns k (All-tail P n ns all))
-  where
-    by_test : (b : Bool) → All P (without_node ns k) → All P (cond b ns (n ∷ without_node ns k))
-    by_test true rest = All-tail P n ns all
-    by_test false rest = All-cons P n (without_node ns k) (All-head P n ns all) rest
-
-pub all_pruned : (P : NodeView → Type 0) (ns : List NodeView) → All P ns → All P (pruned ns)
-all_pruned P [] all = all
-all_pruned P (n ∷ ns) all = by_test (is_done n (pruned ns)) (all_pruned P ns (All-tail P n ns all))
-  where
-    by_test : (b : Bool) → All P (pruned ns) → All P (cond b (pruned ns) (n ∷ pruned ns))
-    by_test true rest = rest
-    by_test false rest = All-cons P n (pruned ns) (All-head P n ns all) rest
-
 -- ---- the one open node
-
--- with numbers that rise, no node but the first of a number has it
-pub apart : (n : NodeView) (ns : List NodeView) → AllPairs (λ (x y : NodeView). x.number < y.number) (n ∷ ns) → All (λ (x : NodeView). n.number < x.number) ns
-apart n ns rising i d lt = rising 0 (suc i) d (omega arith) (omega arith)
-
-pub rising_tail : (n : NodeView) (ns : List NodeView) → AllPairs (λ (x y : NodeView). x.number < y.number) (n ∷ ns) → AllPairs (λ (x y : NodeView). x.number < y.number) ns
-rising_tail n ns rising i j d lt within = rising (suc i) (suc j) d (omega arith) (omega arith)
 
 abbrev pub NotOpen : NodeView → Type 0
 NotOpen n = n.status ≢ Open
@@ -64,7 +34,7 @@ none_open_set (n ∷ ns) f new not_open rising only =
     by_test (n.number == f) (eq_true n.number f) (eq_false n.number f) (none_open_set ns f new not_open (rising_tail n ns rising) (All-tail (λ (x : NodeView). x.status ≡ Open → x.number ≡ f) n ns only))
   where
     by_test : (b : Bool) → (b ≡ true → n.number ≡ f) → (b ≡ false → n.number ≢ f) → All NotOpen (set_node ns f new) → All NotOpen (cond b (new ∷ ns) (n ∷ set_node ns f new))
-    by_test true same other rest = All-cons NotOpen new ns not_open (later_not_open f n ns (same refl) (apart n ns rising) (All-tail (λ (x : NodeView). x.status ≡ Open → x.number ≡ f) n ns only))
+    by_test true same other rest = All-cons NotOpen new ns not_open (later_not_open f n ns (same refl) (rising_head n ns rising) (All-tail (λ (x : NodeView). x.status ≡ Open → x.number ≡ f) n ns only))
     by_test false same other rest = All-cons NotOpen n (set_node ns f new) (λ e. other refl (All-head (λ (x : NodeView). x.status ≡ Open → x.number ≡ f) n ns only e)) rest
 
 -- or once it is gone
@@ -74,7 +44,7 @@ none_open_without (n ∷ ns) f rising only =
     by_test (n.number == f) (eq_true n.number f) (eq_false n.number f) (none_open_without ns f (rising_tail n ns rising) (All-tail (λ (x : NodeView). x.status ≡ Open → x.number ≡ f) n ns only))
   where
     by_test : (b : Bool) → (b ≡ true → n.number ≡ f) → (b ≡ false → n.number ≢ f) → All NotOpen (without_node ns f) → All NotOpen (cond b ns (n ∷ without_node ns f))
-    by_test true same other rest = later_not_open f n ns (same refl) (apart n ns rising) (All-tail (λ (x : NodeView). x.status ≡ Open → x.number ≡ f) n ns only)
+    by_test true same other rest = later_not_open f n ns (same refl) (rising_head n ns rising) (All-tail (λ (x : NodeView). x.status ≡ Open → x.number ≡ f) n ns only)
     by_test false same other rest = All-cons NotOpen n (without_node ns f) (λ e. other refl (All-head (λ (x : NodeView). x.status ≡ Open → x.number ≡ f) n ns only e)) rest
 
 -- where the node of that number isn't open, and only it might be, none is
@@ -84,7 +54,7 @@ none_open (n ∷ ns) f not_open rising only =
     by_test (n.number == f) (eq_true n.number f) (eq_false n.number f) not_open (λ not_open. none_open ns f not_open (rising_tail n ns rising) (All-tail (λ (x : NodeView). x.status ≡ Open → x.number ≡ f) n ns only))
   where
     by_test : (b : Bool) → (b ≡ true → n.number ≡ f) → (b ≡ false → n.number ≢ f) → (cond b n (node_at ns f)).status ≢ Open → ((node_at ns f).status ≢ Open → All NotOpen ns) → All NotOpen (n ∷ ns)
-    by_test true same other not_open rest = All-cons NotOpen n ns not_open (later_not_open f n ns (same refl) (apart n ns rising) (All-tail (λ (x : NodeView). x.status ≡ Open → x.number ≡ f) n ns only))
+    by_test true same other not_open rest = All-cons NotOpen n ns not_open (later_not_open f n ns (same refl) (rising_head n ns rising) (All-tail (λ (x : NodeView). x.status ≡ Open → x.number ≡ f) n ns only))
     by_test false same other not_open rest = All-cons NotOpen n ns (λ e. other refl (All-head (λ (x : NodeView). x.status ≡ Open → x.number ≡ f) n ns only e)) (rest not_open)
 
 pub only_of_none : (f : ℕ) (ns : List NodeView) → All NotOpen ns → All (λ (x : NodeView). x.status ≡ Open → x.number ≡ f) ns

@@ -1,11 +1,14 @@
 -- What a whole search comes to.
-use Rattle.std.proofs.Common.{◌≡◌, ℕ, ◌≤◌, List, Option, Some, subst}
+use Rattle.std.proofs.Common.{◌≡◌, ℕ, ◌≤◌, List, Option, Some, subst, get_or}
+use Rattle.std.proofs.lemmas.List.{get_or_default}
+use Rattle.sm_kinds.specs.declared.var.Var.{Var}
 use Rattle.std.specs.Prelude.{IfSome}
 use Rattle.sm_flat.specs.Models.{FlatModel}
 use Rattle.sm_step.specs.Verdicts.{IsTrueOf}
 use Rattle.sm_search.specs.declared.ending.Ending.{Ending}
 use Rattle.sm_search.specs.declared.refusal.WorkRefusal.{WorkRefusal}
-use Rattle.sm_search.specs.Fits.{IsFit}
+use Rattle.sm_search.specs.Fits.{AreDiscrete, IsFit}
+use Rattle.sm_search.specs.Refusals.{HasReal}
 use Rattle.sm_search.specs.Turns.{HasEnded, HasSolved}
 use Rattle.sm_search.specs.Went.{Place, begin, Went, Stopped}
 use Rattle.sm_search.proofs.Goings.{went_more, stopped_more}
@@ -24,3 +27,7 @@ stopped_first m p x y a b r is stop = let P : Place → Type 0 = λ s. Stopped m
 -- a later line did
 pub stopped_later : (m : FlatModel) (p q : Place) (x y z : Option (List ℕ)) (a b c : ℕ) (r : WorkRefusal) → p ≡ begin m → a ≤ b → Went m p q x y → Stopped m q y z b c r → Stopped m (begin m) x z a c r
 stopped_later m p q x y z a b c r is le one two = stopped_first m p x z a c r is (stopped_more m p q x y z a b c r le one two)
+
+-- where no variable is real, each is of another kind
+pub discrete_of : (vars : List Var) → (HasReal vars → ⊥) → AreDiscrete vars
+discrete_of vars none i d lt e = none (i, get_or vars i d, lt, get_or_default vars i (get_or vars i d) d lt, e)

@@ -1,5 +1,7 @@
 -- What holds of a search all along.
 use Rattle.std.specs.Prelude.{◌≡◌, ◌≢◌, ◌⊎◌, ℕ, ◌<◌, List, length, true, ℤ, pos, All, None, IsSome, IfSome}
+use Rattle.sm_kinds.specs.declared.var.Var.{Var}
+use Rattle.sm_kinds.specs.declared.var.VarKind.TheVariants.{Real}
 use Rattle.sm_kinds.specs.Literals.{complement}
 use Rattle.sm_flat.specs.Models.{FlatModel}
 use Rattle.sm_store.specs.Stores.{Extent, extent_at, narrow}
@@ -42,8 +44,13 @@ IsNear (Split first) = Unit {0}
 abbrev pub IsOnly : ℕ → NodeView → Type 0
 IsOnly focus n = n.status ≡ Open → n.number ≡ focus
 
+-- no variable is real
+abbrev pub AreDiscrete : List Var → Type 0
+AreDiscrete vars = All (λ (v : Var). v.kind ≢ Real) vars
+
 pub record IsFit (m : FlatModel) (s : State) : Type 0 where
   pub of : IsOf m s
+  pub discrete : AreDiscrete m.vars
   pub sound : Sound m (λ _. true) s
   pub says : IfSome s.verdict (IsTrueOf m s.best)
   pub whole : IfSome s.best (λ b. b.denominator ≡ pos 1)

@@ -4,3 +4,4 @@ pub mod Fits
 pub mod Leaves
 pub mod Picks
 pub mod Turns
+pub mod Refusals

@@ -1,5 +1,5 @@
 -- What the parts of a turn come to.
-use Rattle.std.specs.Prelude.{◌≡◌, ℕ, ◌<◌, List, Some, Option}
+use Rattle.std.specs.Prelude.{◌≡◌, ℕ, ◌<◌, ◌≤◌, List, Some, Option, Result, OnOk, IfErr}
 use Rattle.sm_flat.specs.Models.{FlatModel}
 use Rattle.sm_flat.specs.Limits.{IsFlat}
 use Rattle.sm_step.specs.declared.verdict.Verdict.{Verdict}
@@ -10,24 +10,33 @@ use Rattle.sm_rules.specs.Trees.{focus_of}
 use Rattle.sm_rules.specs.Laws.{BeatsBest}
 use Rattle.sm_search.specs.declared.ending.Ending.{Ending}
 use Rattle.sm_search.specs.declared.ending.Ending.TheVariants as ending
-use Rattle.sm_search.specs.declared.search.Turn.{Turn}
-use Rattle.sm_search.specs.declared.search.Turn.TheVariants as turn
-use Rattle.sm_search.specs.Fits.{IsRunning, IsAtOpen}
+use Rattle.sm_search.specs.declared.turn.Turn.{Turn}
+use Rattle.sm_search.specs.declared.turn.Turn.TheVariants as turn
+use Rattle.sm_search.specs.declared.refusal.WorkRefusal.{WorkRefusal}
+use Rattle.sm_search.specs.Fits.{IsFit, IsRunning, IsAtOpen}
 use Rattle.sm_search.specs.Weights.{weight}
-use Rattle.sm_search.specs.Went.{Place, begin, Went}
+use Rattle.sm_search.specs.Went.{Place, begin, Went, Stopped}
+
+-- what a call that is lent the sink came to: it went on to the new place, or it stopped on the way; the search stays fit, and no
+-- fault is forgotten
+pub record Moves {R : Type 0} (m : FlatModel) (result : Result R WorkRefusal) (old new : Place) (before now : Option (List ℕ)) (faults_before faults_now : ℕ) : Type 0 where
+  pub fit : IsFit m new.state
+  pub went : OnOk result (Went m old new before now)
+  pub stopped : IfErr result (Stopped m old before now faults_before faults_now)
+  pub later : faults_before ≤ faults_now
 
 -- the verdict is of this ending
-abbrev pub EndsIn : Ending → Verdict → Type 0
-EndsIn ending.Optimal (Optimal values) = Unit {0}
-EndsIn ending.Satisfied Satisfied = Unit {0}
-EndsIn ending.Infeasible Infeasible = Unit {0}
-EndsIn _ _ = ⊥
+abbrev pub IsVerdictOf : Ending → Verdict → Type 0
+IsVerdictOf ending.Optimal (Optimal values) = Unit {0}
+IsVerdictOf ending.Satisfied Satisfied = Unit {0}
+IsVerdictOf ending.Infeasible Infeasible = Unit {0}
+IsVerdictOf _ _ = ⊥
 
 -- the log ends in a verdict of this ending
 pub record HasEnded (s : State) (e : Ending) : Type 0 where
   pub verdict : Verdict
   pub stands : s.verdict ≡ Some verdict
-  pub ends : EndsIn e verdict
+  pub ends : IsVerdictOf e verdict
 
 -- the search goes on with less to do
 pub record GoesOn (old new : State) : Type 0 where

@@ -9,7 +9,7 @@ use Rattle.sm_step.specs.Text.{text_of}
 use Rattle.sm_step.specs.Grammar.{IsLine}
 use Rattle.sm_rules.specs.States.{State}
 use Rattle.sm_rules.specs.Laws.{Allowed}
-use Rattle.sm_rules.specs.Steps.{Replays, start}
+use Rattle.sm_rules.specs.Transitions.{Replays, start}
 use Rattle.sm_search.specs.declared.refusal.WorkRefusal.{WorkRefusal}
 use Rattle.sm_search.specs.declared.refusal.WorkRefusal.TheVariants.{WriteFault, LogTooLong, OutOfMemory}
 

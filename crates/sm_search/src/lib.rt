@@ -2,11 +2,13 @@
 #![tactic(auto)]
 
 mod ending;
+mod leaf;
 mod pick;
 mod refusal;
 mod running;
 mod search;
+mod turn;
 
 pub use ending::Ending;
 pub use refusal::WorkRefusal;
-pub use running::{Halt, solve};
+pub use running::{Halt, SolveRefusal, solve};

@@ -1,5 +1,6 @@
 //! Which variable a node is split on, and where.
 ghost use Rattle.std.specs.Prelude.{◌≡◌, ◌<◌, ◌≤◌, ◌^◌, ◌↔◌, ◌⊎◌, ◌<ℤ◌, ◌≤ℤ◌, Some, IsTrue, IfSome, IfNone, length, unsigned_abs};
+ghost use Rattle.sm_store.specs.Stores.{extent_at, least_of, greatest_of, IsOrdered, IsStoreOf};
 ghost use Rattle.sm_search.specs.Leaves.{IsUnfixed, NoneUnfixed};
 ghost use Rattle.sm_search.specs.Picks.{Splits};
 
@@ -14,7 +15,7 @@ struct Choice {
     split: SplitBy,
 }
 
-/// Whether a variable has more than one value left.
+/// Whether a variable has more than one value left; a real variable never has, since its values aren't counted.
 fn is_unfixed(store: &Store, var: u32) -> bool
     ensures { IsTrue result ↔ IsUnfixed store.now var }
 {
@@ -138,37 +139,55 @@ fn middle(least: &i64, greatest: &i64) -> i64
     *least + (*greatest - *least) / 2
 }
 
+/// The least and the greatest value of a variable that has several.
+#[tactic(auto, using(crate::proofs::Splitting::unfixed_some, crate::proofs::Splitting::ends_apart))]
+fn ends(store: &Store, var: u32) -> (i64, i64)
+    requires unfixed { IsUnfixed store.now var }
+    requires ordered { IsOrdered (extent_at store.now var).kind (extent_at store.now var).values }
+    ensures least { result.0 ≡ least_of (extent_at store.now var) }
+    ensures greatest { result.1 ≡ greatest_of (extent_at store.now var) }
+    ensures apart { result.0 <ℤ result.1 }
+    ensures small { (unsigned_abs result.0 ≤ 2 ^ 31) × (unsigned_abs result.1 ≤ 2 ^ 31) }
+{
+    match store.bounds(var) {
+        Some(ends) => ends,
+        None => unreachable!(),
+    }
+}
+
 /// The literal of a first child that splits a variable's domain.
+#[tactic(auto, using(crate::proofs::Splitting::low_splits, crate::proofs::Splitting::high_splits))]
 fn split(store: &Store, var: u32, by: SplitBy) -> Literal
-    requires { IsUnfixed store.now var }
+    requires unfixed { IsUnfixed store.now var }
+    requires ordered { IsOrdered (extent_at store.now var).kind (extent_at store.now var).values }
     ensures { Splits store.now result }
 {
-    let values = store.domain(var).values();
-    let least = &values[0];
-    let greatest = &values[values.len() - 1];
+    let (least, greatest) = ends(store, var);
     match by {
         SplitBy::Half => Literal {
             var,
             test: Test::AtMost,
-            bound: middle(least, greatest),
+            bound: middle(&least, &greatest),
         },
         SplitBy::Least => Literal {
             var,
             test: Test::AtMost,
-            bound: *least,
+            bound: least,
         },
         SplitBy::Most => Literal {
             var,
             test: Test::AtLeast,
-            bound: *greatest,
+            bound: greatest,
         },
     }
 }
 
 /// The literal that a node of this store is split by: of the constraint of least branch number that has a
 /// variable with several values, by its tags; where none has, the first such variable is halved.
+#[tactic(auto, using(crate::proofs::Splitting::ordered_at))]
 pub(crate) fn pick(flat: &Flat, store: &Store) -> Option<Literal>
-    requires { length store.now < 2 ^ 32 }
+    requires of { IsStoreOf flat.now store.now }
+    requires few { length store.now < 2 ^ 32 }
     ensures some { IfSome result (λ l. Splits store.now l) }
     ensures none { IfNone result (NoneUnfixed store.now) }
 {

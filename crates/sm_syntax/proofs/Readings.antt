@@ -1,14 +1,15 @@
 -- How readings are put together.
 use Rattle.std.proofs.Common.{◌≡◌, ◌∙◌, ap, sym, subst, refl, arith, ◌==◌, ℕ, true, false, List, [], ◌∷◌, ◌++◌, Some, append_assoc, length, eq-eqb}
-use Rattle.std.specs.Prelude.{map}
+use Rattle.std.specs.Prelude.{map, Option, None, option_map, Result, Ok, Err}
 use Rattle.sm_syntax.specs.declared.failure.Failure.{Failure}
 use Rattle.sm_syntax.specs.declared.failure.Failure.TheVariants as failure
 use Rattle.sm_syntax.specs.declared.place.Place.{Place}
 use Rattle.sm_syntax.specs.Tokens.{Token}
 use Rattle.sm_syntax.specs.Grammars.{Symbol, leaf, node, predict}
 use Rattle.sm_syntax.specs.Grammar.{grammar}
-use Rattle.sm_syntax.specs.Parsing.{kind, Step, becomes, stands_at, Builds, reads, uses, noted, entered, is_rule, is_too_deep, depth_after, Halt, bad, too_deep, Run, eats, stops, other, takes}
-use Rattle.sm_syntax.specs.Reading.{Standing, left, next, Leads, Stops, Fault, each}
+use Rattle.sm_syntax.specs.Parsing.{kind, Step, becomes, stands_at, placed, Builds, reads, uses, noted, entered, is_rule, is_too_deep, depth_after, Halt, bad, too_deep, Run, eats, stops, other, takes}
+use Rattle.sm_syntax.specs.Reading.{Standing, left, next, Leads, Stops, Fault, ReadsWhole, alternative_then, each}
+use Rattle.sm_syntax.specs.TreeSteps.{item_step, list_then, optional_then}
 use Rattle.sm_syntax.proofs.GrammarLaws.{predict_among}
 
 -- ---- one after the other
@@ -145,3 +146,30 @@ map_more f (y ∷ ys) x = ap (λ zs. f y ∷ zs) (map_more f ys x)
 -- a state from which reading begins that stayed
 pub from_kept : {s t u : Standing} {S T : List Symbol} {f : List Step → List Step} → u ≡ s → Leads u S f t T → Leads s S f t T
 from_kept {s} {t} {u} {S} {T} {f} same p = subst (λ (x : Standing). Leads x S f t T) same p
+
+-- ---- a nonterminal by one alternative
+
+-- what is made of its parts lists as they do
+pub rule_builds : {s t : Standing} {rhs : List Symbol} {f : List Step → List Step} (A : ℕ) (p : Place) (g : List Step → List Step) → p ≡ s.first.place → predict grammar A (next s) ≡ Some rhs
+    → Leads s rhs f t [] → ((r : List Step) → g r ≡ alternative_then A rhs p (f r)) → Leads s (node A ∷ []) g t []
+rule_builds {s} {t} {rhs} {f} A p g at is lead same = restep g (λ r. ap (λ q. alternative_then A rhs q (f r)) (sym at) ∙ sym (same r)) (after (opened s A rhs is) lead)
+
+-- ---- the same steps, of what is read and of its plain data
+
+each_of : {X Y : Type 0} (A : Symbol) (rhs : List Symbol) (f : Y → List Step → List Step) (h : X → Y) (xs : List X) (r : List Step) → each (item_step A rhs (λ x. f (h x))) xs r ≡ each (item_step A rhs f) (map h xs) r
+each_of A rhs f h [] r = refl
+each_of A rhs f h (x ∷ xs) r = ap (item_step A rhs f (h x)) (each_of A rhs f h xs r)
+
+pub list_reads : {X Y : Type 0} (A : Symbol) (rhs : List Symbol) (f : Y → List Step → List Step) (h : X → Y) (s t : Standing) (a : Result (List X) Failure)
+    → ReadsWhole s (A ∷ []) (list_then A rhs (λ x. f (h x))) t a → ReadsWhole s (A ∷ []) (λ xs. list_then A rhs f (map h xs)) t a
+list_reads A rhs f h s t (Ok xs) p = restep (list_then A rhs f (map h xs)) (λ r. each_of A rhs f h xs (becomes A [] ∷ r)) p
+list_reads A rhs f h s t (Err e) p = p
+
+optional_of : {X Y : Type 0} (A : Symbol) (rhs : List Symbol) (f : Y → List Step → List Step) (h : X → Y) (x : Option X) (r : List Step) → optional_then A rhs (λ y. f (h y)) x r ≡ optional_then A rhs f (option_map h x) r
+optional_of A rhs f h None r = refl
+optional_of A rhs f h (Some x) r = refl
+
+pub optional_reads : {X Y : Type 0} (A : Symbol) (rhs : List Symbol) (f : Y → List Step → List Step) (h : X → Y) (s t : Standing) (a : Result (Option X) Failure)
+    → ReadsWhole s (A ∷ []) (optional_then A rhs (λ y. f (h y))) t a → ReadsWhole s (A ∷ []) (λ x. optional_then A rhs f (option_map h x)) t a
+optional_reads A rhs f h s t (Ok x) p = restep (optional_then A rhs f (option_map h x)) (optional_of A rhs f h x) p
+optional_reads A rhs f h s t (Err e) p = p

@@ -8,6 +8,11 @@ pub data Symbol : Type 0 where
   leaf : ℕ → Symbol
   node : ℕ → Symbol
 
+-- the number of either
+abbrev pub number_of : Symbol → ℕ
+number_of (leaf a) = a
+number_of (node A) = A
+
 -- The alternatives of each nonterminal, and three tables that go with them: the kinds with which it may begin,
 -- those that may follow it, and whether it may be empty.
 pub record Grammar : Type 0 where

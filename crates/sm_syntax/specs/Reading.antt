@@ -7,7 +7,8 @@ use Rattle.sm_syntax.specs.Terminals.{code_of, opens, closes}
 use Rattle.sm_syntax.specs.Tokens.{Token}
 use Rattle.sm_syntax.specs.Grammars.{Symbol, leaf, node, predict}
 use Rattle.sm_syntax.specs.Grammar.{grammar, start, token_end}
-use Rattle.sm_syntax.specs.Parsing.{kind, Step, Builds, Halt, bad, too_deep, Run}
+use Rattle.sm_syntax.specs.declared.place.Place.{Place}
+use Rattle.sm_syntax.specs.Parsing.{kind, Step, becomes, is_rule, placed, Builds, Halt, bad, too_deep, Run}
 
 -- how many brackets are open, and the tokens that are still to come
 pub record Standing : Type 0 where
@@ -61,6 +62,10 @@ ReadsWhole from S steps to (Err e) = Fault from S to e
 abbrev pub Chooses : Standing → Symbol → List Symbol → Type 0
 Chooses s (leaf a) rhs = ⊥
 Chooses s (node A) rhs = predict grammar A (next s) ≡ Some rhs
+
+-- a nonterminal becomes a right side at a place, and then the rest
+abbrev pub alternative_then : ℕ → List Symbol → Place → List Step → List Step
+alternative_then A rhs p rest = becomes (node A) rhs ∷ placed (is_rule A) p rest
 
 -- each item of a list in turn
 abbrev pub each : {X : Type 0} → (X → List Step → List Step) → List X → List Step → List Step

@@ -75,7 +75,7 @@ pub enum Atom {
 }
 
 /// Whether all formulas of the tuples hold, or one of them.
-#[derive(Clone, Copy, Debug, PartialEq, Eq)]
+#[derive(Clone, Copy)]
 pub enum Quantifier {
     All,
     Any,

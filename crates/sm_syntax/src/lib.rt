@@ -10,6 +10,8 @@ ghost use Rattle.sm_syntax.specs.Words.{reserved_word};
 mod expression;
 mod failure;
 mod formula;
+mod group;
+mod keyword;
 mod part;
 mod place;
 mod read_constraint;
@@ -19,6 +21,7 @@ mod read_list;
 mod read_model;
 mod read_tag;
 mod reader;
+mod rule;
 mod sign;
 mod terminal;
 mod token;
@@ -40,7 +43,7 @@ pub use tree::{
 };
 
 /// Why a text has no tree.
-#[derive(Clone, Copy, Debug, PartialEq, Eq, Error)]
+#[derive(Clone, Copy, Debug, Error)]
 pub enum ParseRefusal {
     /// The text is no model. No model begins with the part of the text up to this token, and some model begins
     /// with the part before it.

@@ -1,5 +1,5 @@
 //! Parts of a text that are read one behind the other.
-ghost use Rattle.std.specs.Prelude.{◌≡◌, ◌<◌, ◌∷◌, ◌++◌, [], List, true, length, IfOk, OnOk};
+ghost use Rattle.std.specs.Prelude.{◌≡◌, ◌<◌, ◌∷◌, ◌++◌, [], List, true, length, Ok, Err, IfOk, IfErr, OnOk};
 ghost use Rattle.sm_syntax.specs.declared.terminal.Terminal.{Terminal as Kind};
 ghost use Rattle.sm_syntax.specs.Terminals.{code_of, opens, closes};
 ghost use Rattle.sm_syntax.specs.Grammars.{Symbol, leaf};
@@ -101,19 +101,43 @@ impl<B: Bracket, P: Part> Part for Within<B, P> {
     }
 }
 
+/// A part behind a word.
+#[derive(Drop)]
+pub struct Behind<W, P>(pub P, pub PhantomData<W>);
+
 /// Reads a part behind a word.
-pub fn read_behind<P: Part>(
+pub fn read_behind<W: Word, P: Part>(
     alloc: Global,
     reader: &mut Reader<'_>,
-    word: Terminal,
-) -> Result<P, Failure>
-    requires { is_plain word ≡ true }
-    ensures read { ReadsWhole reader.old (leaf (code_of word) ∷ P.symbols) P.steps reader.new result }
+) -> Result<Behind<W, P>, Failure>
+    ensures read { ReadsWhole reader.old (leaf (code_of W.terminal) ∷ P.symbols) (λ p r. P.steps p.0 r) reader.new result }
     ensures shorter { OnOk result (length reader.new.later < length reader.old.later) }
 {
-    reader.expect(word)?;
+    reader.expect(W::terminal())?;
     let part = P::read(alloc, reader)?;
-    Ok(part)
+    Ok(Behind(part, PhantomData))
+}
+
+impl<W: Word, P: Part> Part for Behind<W, P> {
+    ghost symbols = { leaf (code_of W.terminal) ∷ P.symbols };
+
+    ghost steps = { λ p r. P.steps p.0 r };
+
+    fn read(alloc: Global, reader: &mut Reader<'_>) -> Result<Behind<W, P>, Failure> {
+        read_behind(alloc, reader)
+    }
+}
+
+/// Both of what is read, one behind the other. Generic, so that what drops the first, where the second fails, is proved here
+/// alone.
+pub fn joined<A: Drop, B>(first: A, second: Result<B, Failure>) -> Result<Pair<A, B>, Failure>
+    ensures ok { IfOk result (λ p. (second ≡ Ok p.1) × (p.0 ≡ first)) }
+    ensures err { IfErr result (λ e. second ≡ Err e) }
+{
+    match second {
+        Ok(second) => Ok(Pair(first, second)),
+        Err(failure) => Err(failure),
+    }
 }
 
 /// An item before others.

@@ -4,7 +4,7 @@ ghost use Rattle.sm_syntax.specs.Places.{along, next_line, start_place};
 
 /// A line and a column, both counted from 1, the column in bytes. A number that passes the greatest one stands
 /// still there.
-#[derive(Clone, Copy, Debug, PartialEq, Eq)]
+#[derive(Clone, Copy)]
 pub struct Place {
     pub line: u32,
     pub column: u32,

@@ -1,6 +1,6 @@
 //! Reading expressions.
 ghost use Rattle.std.specs.Prelude.{◌≡◌, ◌<◌, ◌∷◌, [], None, Some, IfSome, IfNone, IfOk, OnOk, length, map};
-ghost use Rattle.sm_syntax.specs.Grammars.{leaf, predict};
+ghost use Rattle.sm_syntax.specs.Grammars.{leaf, number_of, predict};
 ghost use Rattle.sm_syntax.specs.Grammar as g;
 ghost use Rattle.sm_syntax.specs.Reading.{Standing, next, Leads, ReadsWhole, Chooses};
 ghost use Rattle.sm_syntax.specs.Expressions.{expression_of, binding_of, factor_of, term_of, test_of, addends_of, operands_of, addend_of, expressions_of, comparisons_of};
@@ -9,9 +9,12 @@ ghost use Rattle.sm_syntax.specs.Symbols.{sign_of, relation_of, begins_sign};
 
 use crate::expression::{Addend, Binders, Expr, Factor, Term, Test};
 use crate::failure::Failure;
-use crate::part::{Mark, Pair, Part, gathered};
+use crate::group::{Grouped, read_repeated};
+use crate::part::{Behind, Pair, Part, gathered};
+use crate::place::Place;
 use crate::reader::Reader;
-use crate::sign::In;
+use crate::rule::{Rule, read_rule};
+use crate::sign::{Comma, In};
 use crate::terminal::Terminal;
 use crate::tree::{Bind, Name, Relation, Sign};
 use sqlite_items::{Boxed, Items};
@@ -86,7 +89,18 @@ fn read_relation(reader: &mut Reader<'_>) -> Result<Relation, Failure>
 }
 
 /// The right side of a bind.
-type BindParts = Pair<Name, Pair<Mark<In>, Name>>;
+type BindParts = Pair<Name, Behind<In, Name>>;
+
+impl Rule<BindParts> for Bind {
+    ghost number = { number_of g.bind };
+
+    ghost listed = { bind_then };
+
+    fn build(place: Place, parts: BindParts) -> Bind {
+        let Pair(name, Behind(set, _)) = parts;
+        Bind { place, name, set }
+    }
+}
 
 impl Part for Bind {
     ghost symbols = { g.bind ∷ [] };
@@ -94,11 +108,12 @@ impl Part for Bind {
     ghost steps = { bind_then };
 
     fn read(alloc: Global, reader: &mut Reader<'_>) -> Result<Bind, Failure> {
-        let place = reader.place();
-        let parts = BindParts::read(alloc, reader)?;
-        let Pair(name, Pair(_, set)) = parts;
-        Ok(Bind { place, name, set })
+        read_rule::<BindParts, Bind>(alloc, reader)
     }
+}
+
+impl Grouped<Comma> for Bind {
+    ghost group = { number_of g.more_binds };
 }
 
 impl Part for Items<Bind> {
@@ -107,12 +122,7 @@ impl Part for Items<Bind> {
     ghost steps = { λ xs. list_then g.more_binds (g.token_comma ∷ g.bind ∷ g.more_binds ∷ []) bind_then xs };
 
     fn read(alloc: Global, reader: &mut Reader<'_>) -> Result<Items<Bind>, Failure> {
-        let mut binds = Items::new(alloc);
-        'binds: while reader.accept(Terminal::Comma) {
-            let bind = Bind::read(alloc, reader)?;
-            binds.push(bind)?;
-        }
-        Ok(binds)
+        read_repeated::<Comma, Bind>(alloc, reader)
     }
 }
 

@@ -1,19 +1,21 @@
 //! Reading literals and formulas.
-ghost use Rattle.std.specs.Prelude.{◌≡◌, ◌∷◌, [], false, IfOk};
+ghost use Rattle.std.specs.Prelude.{◌≡◌, ◌∷◌, [], false, IfOk, map};
 ghost use Rattle.sm_syntax.specs.Grammar as g;
+ghost use Rattle.sm_syntax.specs.Grammars.{number_of};
 ghost use Rattle.sm_syntax.specs.Reading.{Standing, Leads, ReadsWhole, ReadsTo, Chooses, each, is_next};
 ghost use Rattle.sm_syntax.specs.Expressions.{literal_of};
-ghost use Rattle.sm_syntax.specs.Formulas.{formula_of, conclusion_of, disj_of, conj_of, unit_of, atom_of};
-ghost use Rattle.sm_syntax.specs.TreeSteps.{lit_relation_then, quantifier_then, literal_then, negation_then, statement_then, ending_then, disjunction_then, conjunction_then, claim_then};
+ghost use Rattle.sm_syntax.specs.Formulas.{formula_of, conclusion_of, disj_of, conj_of, unit_of, atom_of, conjunctions_of, claims_of};
+ghost use Rattle.sm_syntax.specs.TreeSteps.{lit_relation_then, quantifier_then, literal_then, negation_then, statement_then, ending_then, disjunction_then, conjunctions_then, conjunction_then, claims_then, claim_then};
 ghost use Rattle.sm_syntax.specs.Symbols.{lit_relation_of, quantifier_of};
 
 use crate::expression::{Binders, Expr};
 use crate::failure::Failure;
 use crate::formula::{Atom, Conclusion, Conj, Disj, Formula, Quantifier, Unit};
-use crate::part::{Pair, Part, Within};
+use crate::part::{Pair, Part, Within, joined};
 use crate::place::Place;
 use crate::read_expression::read_scope;
 use crate::reader::Reader;
+use crate::rule::{Rule, read_rule};
 use crate::sign::Square;
 use crate::terminal::Terminal;
 use crate::tree::{Lit, LitRelation};
@@ -31,18 +33,6 @@ fn lit_relation_of(terminal: Terminal) -> Option<LitRelation>
         Terminal::Unequal => Some(LitRelation::Unequal),
         _ => None,
     }
-}
-
-/// Reads the relation of a literal.
-fn read_lit_relation(reader: &mut Reader<'_>) -> Result<LitRelation, Failure>
-    ensures { ReadsWhole reader.old (g.lit_relation ∷ []) lit_relation_then reader.new result }
-{
-    let terminal = reader.terminal();
-    let Some(relation) = lit_relation_of(terminal) else {
-        return Err(Failure::Syntax);
-    };
-    reader.take(terminal);
-    Ok(relation)
 }
 
 /// The quantifier that a token is.
@@ -74,12 +64,33 @@ impl Part for LitRelation {
     ghost steps = { lit_relation_then };
 
     fn read(_alloc: Global, reader: &mut Reader<'_>) -> Result<LitRelation, Failure> {
-        read_lit_relation(reader)
+        let terminal = reader.terminal();
+        let Some(relation) = lit_relation_of(terminal) else {
+            return Err(Failure::Syntax);
+        };
+        reader.take(terminal);
+        Ok(relation)
     }
 }
 
 /// The right side of a literal.
 type LitParts = Within<Square, Pair<Expr, Pair<LitRelation, Expr>>>;
+
+impl Rule<LitParts> for Lit {
+    ghost number = { number_of g.lit };
+
+    ghost listed = { λ l. literal_then (literal_of l) };
+
+    fn build(place: Place, parts: LitParts) -> Lit {
+        let Within(Pair(left, Pair(relation, right)), _) = parts;
+        Lit {
+            place,
+            left,
+            relation,
+            right,
+        }
+    }
+}
 
 impl Part for Lit {
     ghost symbols = { g.lit ∷ [] };
@@ -87,15 +98,7 @@ impl Part for Lit {
     ghost steps = { λ l. literal_then (literal_of l) };
 
     fn read(alloc: Global, reader: &mut Reader<'_>) -> Result<Lit, Failure> {
-        let place = reader.place();
-        let parts = LitParts::read(alloc, reader)?;
-        let Within(Pair(left, Pair(relation, right)), _) = parts;
-        Ok(Lit {
-            place,
-            left,
-            relation,
-            right,
-        })
+        read_rule::<LitParts, Lit>(alloc, reader)
     }
 }
 
@@ -120,7 +123,9 @@ fn read_formula(alloc: Global, reader: &mut Reader<'_>) -> Result<Formula, Failu
 {
     let place = reader.place();
     let left = read_disj(alloc, reader)?;
-    let conclusion = read_conclusion(alloc, reader)?;
+    let conclusion = read_conclusion(alloc, reader);
+    let parts = joined(left, conclusion)?;
+    let Pair(left, conclusion) = parts;
     Ok(Formula::new(place, left, conclusion))
 }
 
@@ -147,12 +152,23 @@ fn read_disj(alloc: Global, reader: &mut Reader<'_>) -> Result<Disj, Failure>
 {
     let place = reader.place();
     let first = read_conj(alloc, reader)?;
-    let mut more = Items::new(alloc);
+    let more = read_more_conjs(alloc, reader);
+    let parts = joined(first, more)?;
+    let Pair(first, more) = parts;
+    Ok(Disj::new(place, first, more))
+}
+
+/// Reads the further conjunctions of a disjunction.
+#[cycle(formula)]
+fn read_more_conjs(alloc: Global, reader: &mut Reader<'_>) -> Result<Items<Conj>, Failure>
+    ensures { ReadsWhole reader.old (g.more_conjs ∷ []) (λ xs. conjunctions_then (conjunctions_of (map conj_of xs))) reader.new result }
+{
+    let mut conjs = Items::new(alloc);
     'conjs: while reader.accept(Terminal::Or) {
         let conj = read_conj(alloc, reader)?;
-        more.push(conj)?;
+        conjs.push(conj)?;
     }
-    Ok(Disj::new(place, first, more))
+    Ok(conjs)
 }
 
 /// Reads a conjunction.
@@ -162,12 +178,23 @@ fn read_conj(alloc: Global, reader: &mut Reader<'_>) -> Result<Conj, Failure>
 {
     let place = reader.place();
     let first = read_unit(alloc, reader)?;
-    let mut more = Items::new(alloc);
+    let more = read_more_units(alloc, reader);
+    let parts = joined(first, more)?;
+    let Pair(first, more) = parts;
+    Ok(Conj::new(place, first, more))
+}
+
+/// Reads the further units of a conjunction.
+#[cycle(formula)]
+fn read_more_units(alloc: Global, reader: &mut Reader<'_>) -> Result<Items<Unit>, Failure>
+    ensures { ReadsWhole reader.old (g.more_units ∷ []) (λ xs. claims_then (claims_of (map unit_of xs))) reader.new result }
+{
+    let mut units = Items::new(alloc);
     'units: while reader.accept(Terminal::And) {
         let unit = read_unit(alloc, reader)?;
-        more.push(unit)?;
+        units.push(unit)?;
     }
-    Ok(Conj::new(place, first, more))
+    Ok(units)
 }
 
 /// Reads a unit.
@@ -211,10 +238,8 @@ fn read_formula_group(alloc: Global, reader: &mut Reader<'_>) -> Result<Atom, Fa
     ensures { ReadsWhole reader.old (g.unit ∷ []) (λ a. claim_then (atom_of a)) reader.new result }
 {
     let place = reader.place();
-    reader.open(Terminal::OpenRound)?;
-    let inner = read_formula(alloc, reader)?;
+    let inner = read_inner(alloc, reader)?;
     reader.close(Terminal::CloseRound)?;
-    let inner = Boxed::new(alloc, inner)?;
     Ok(Atom::from_group(place, inner))
 }
 
@@ -231,7 +256,7 @@ fn read_quantified(alloc: Global, reader: &mut Reader<'_>) -> Result<Atom, Failu
     Ok(Atom::from_quantified(place, quantifier, inner, binders))
 }
 
-/// Reads the formula behind a quantifier, with the bracket before it.
+/// Reads the formula in brackets, with the bracket before it.
 #[cycle(formula)]
 fn read_inner(alloc: Global, reader: &mut Reader<'_>) -> Result<Boxed<Formula>, Failure>
     ensures { ReadsWhole reader.old (g.token_open_round ∷ g.formula ∷ []) (λ f. statement_then (formula_of f)) reader.new result }

@@ -1,6 +1,7 @@
 //! Reading lists, and the parts of constraints that stand in lists.
 ghost use Rattle.std.specs.Prelude.{◌≡◌, ◌∷◌, [], map, option_map};
 ghost use Rattle.sm_syntax.specs.Grammar as g;
+ghost use Rattle.sm_syntax.specs.Grammars.{number_of};
 ghost use Rattle.sm_syntax.specs.Reading.{Standing, Leads, ReadsWhole};
 ghost use Rattle.sm_syntax.specs.Expressions.{binding_of, literal_of};
 ghost use Rattle.sm_syntax.specs.Trees.{listing_of, choice_of, ctask_of, dtask_of, load_of};
@@ -8,13 +9,20 @@ ghost use Rattle.sm_syntax.specs.TreeSteps.{for_each_then, presence_then, listin
 
 use crate::expression::{Binders, Expr};
 use crate::failure::Failure;
-use crate::part::{Mark, Pair, Part, Within};
+use crate::group::{Grouped, read_optional, read_repeated};
+use crate::keyword::When;
+use crate::part::{Behind, Pair, Part, Within};
+use crate::place::Place;
 use crate::reader::Reader;
-use crate::sign::{Colon, Comma, Square};
-use crate::terminal::Terminal;
+use crate::rule::{Rule, read_rule};
+use crate::sign::{Colon, Comma, For, Semicolon, Square};
 use crate::tree::{Choice, Ctask, Dtask, List, Lit, Load};
 use sqlite_items::Items;
 use std::alloc::Global;
+
+impl Grouped<For> for Binders {
+    ghost group = { number_of g.for_each };
+}
 
 impl Part for Option<Binders> {
     ghost symbols = { g.for_each ∷ [] };
@@ -22,12 +30,12 @@ impl Part for Option<Binders> {
     ghost steps = { λ x. for_each_then (option_map binding_of x) };
 
     fn read(alloc: Global, reader: &mut Reader<'_>) -> Result<Option<Binders>, Failure> {
-        if !reader.accept(Terminal::For) {
-            return Ok(None);
-        }
-        let binders = Binders::read(alloc, reader)?;
-        Ok(Some(binders))
+        read_optional::<For, Binders>(alloc, reader)
     }
+}
+
+impl Grouped<When> for Lit {
+    ghost group = { number_of g.presence };
 }
 
 impl Part for Option<Lit> {
@@ -36,16 +44,28 @@ impl Part for Option<Lit> {
     ghost steps = { λ x. presence_then (option_map literal_of x) };
 
     fn read(alloc: Global, reader: &mut Reader<'_>) -> Result<Option<Lit>, Failure> {
-        if !reader.accept(Terminal::When) {
-            return Ok(None);
-        }
-        let lit = Lit::read(alloc, reader)?;
-        Ok(Some(lit))
+        read_optional::<When, Lit>(alloc, reader)
     }
 }
 
 /// The right side of a list.
 type ListParts = Pair<Expr, Pair<Items<Expr>, Option<Binders>>>;
+
+impl Rule<ListParts> for List {
+    ghost number = { number_of g.list };
+
+    ghost listed = { λ x. listing_then (listing_of x) };
+
+    fn build(place: Place, parts: ListParts) -> List {
+        let Pair(first, Pair(more, binders)) = parts;
+        List {
+            place,
+            first,
+            more,
+            binders,
+        }
+    }
+}
 
 impl Part for List {
     ghost symbols = { g.list ∷ [] };
@@ -53,15 +73,7 @@ impl Part for List {
     ghost steps = { λ x. listing_then (listing_of x) };
 
     fn read(alloc: Global, reader: &mut Reader<'_>) -> Result<List, Failure> {
-        let place = reader.place();
-        let parts = ListParts::read(alloc, reader)?;
-        let Pair(first, Pair(more, binders)) = parts;
-        Ok(List {
-            place,
-            first,
-            more,
-            binders,
-        })
+        read_rule::<ListParts, List>(alloc, reader)
     }
 }
 
@@ -69,7 +81,23 @@ impl Part for List {
 pub type Table = Within<Square, List>;
 
 /// The right side of a choice.
-type ChoiceParts = Pair<Expr, Pair<Mark<Colon>, Pair<Table, Option<Binders>>>>;
+type ChoiceParts = Pair<Expr, Behind<Colon, Pair<Table, Option<Binders>>>>;
+
+impl Rule<ChoiceParts> for Choice {
+    ghost number = { number_of g.choice };
+
+    ghost listed = { λ x. choice_then (choice_of x) };
+
+    fn build(place: Place, parts: ChoiceParts) -> Choice {
+        let Pair(picks, Behind(Pair(Within(table, _), binders), _)) = parts;
+        Choice {
+            place,
+            picks,
+            table,
+            binders,
+        }
+    }
+}
 
 impl Part for Choice {
     ghost symbols = { g.choice ∷ [] };
@@ -77,16 +105,12 @@ impl Part for Choice {
     ghost steps = { λ x. choice_then (choice_of x) };
 
     fn read(alloc: Global, reader: &mut Reader<'_>) -> Result<Choice, Failure> {
-        let place = reader.place();
-        let parts = ChoiceParts::read(alloc, reader)?;
-        let Pair(picks, Pair(_, Pair(Within(table, _), binders))) = parts;
-        Ok(Choice {
-            place,
-            picks,
-            table,
-            binders,
-        })
+        read_rule::<ChoiceParts, Choice>(alloc, reader)
     }
+}
+
+impl Grouped<Semicolon> for Choice {
+    ghost group = { number_of g.choices };
 }
 
 impl Part for Items<Choice> {
@@ -95,23 +119,36 @@ impl Part for Items<Choice> {
     ghost steps = { λ xs. choices_then (map choice_of xs) };
 
     fn read(alloc: Global, reader: &mut Reader<'_>) -> Result<Items<Choice>, Failure> {
-        let mut choices = Items::new(alloc);
-        'choices: while reader.accept(Terminal::Semicolon) {
-            let choice = Choice::read(alloc, reader)?;
-            choices.push(choice)?;
-        }
-        Ok(choices)
+        read_repeated::<Semicolon, Choice>(alloc, reader)
     }
 }
 
 /// The right side of a task that takes a part of a capacity.
 type CtaskParts = Pair<
     Expr,
-    Pair<
-        Mark<Comma>,
-        Pair<Expr, Pair<Mark<Comma>, Pair<Expr, Pair<Option<Lit>, Option<Binders>>>>>,
-    >,
+    Behind<Comma, Pair<Expr, Behind<Comma, Pair<Expr, Pair<Option<Lit>, Option<Binders>>>>>>,
 >;
+
+impl Rule<CtaskParts> for Ctask {
+    ghost number = { number_of g.ctask };
+
+    ghost listed = { λ x. ctask_then (ctask_of x) };
+
+    fn build(place: Place, parts: CtaskParts) -> Ctask {
+        let Pair(
+            start,
+            Behind(Pair(duration, Behind(Pair(demand, Pair(presence, binders)), _)), _),
+        ) = parts;
+        Ctask {
+            place,
+            start,
+            duration,
+            demand,
+            presence,
+            binders,
+        }
+    }
+}
 
 impl Part for Ctask {
     ghost symbols = { g.ctask ∷ [] };
@@ -119,19 +156,12 @@ impl Part for Ctask {
     ghost steps = { λ x. ctask_then (ctask_of x) };
 
     fn read(alloc: Global, reader: &mut Reader<'_>) -> Result<Ctask, Failure> {
-        let place = reader.place();
-        let parts = CtaskParts::read(alloc, reader)?;
-        let Pair(start, Pair(_, Pair(duration, Pair(_, Pair(demand, Pair(presence, binders)))))) =
-            parts;
-        Ok(Ctask {
-            place,
-            start,
-            duration,
-            demand,
-            presence,
-            binders,
-        })
+        read_rule::<CtaskParts, Ctask>(alloc, reader)
     }
+}
+
+impl Grouped<Semicolon> for Ctask {
+    ghost group = { number_of g.ctasks };
 }
 
 impl Part for Items<Ctask> {
@@ -140,17 +170,29 @@ impl Part for Items<Ctask> {
     ghost steps = { λ xs. ctasks_then (map ctask_of xs) };
 
     fn read(alloc: Global, reader: &mut Reader<'_>) -> Result<Items<Ctask>, Failure> {
-        let mut tasks = Items::new(alloc);
-        'tasks: while reader.accept(Terminal::Semicolon) {
-            let task = Ctask::read(alloc, reader)?;
-            tasks.push(task)?;
-        }
-        Ok(tasks)
+        read_repeated::<Semicolon, Ctask>(alloc, reader)
     }
 }
 
 /// The right side of a task that takes all there is.
-type DtaskParts = Pair<Expr, Pair<Mark<Comma>, Pair<Expr, Pair<Option<Lit>, Option<Binders>>>>>;
+type DtaskParts = Pair<Expr, Behind<Comma, Pair<Expr, Pair<Option<Lit>, Option<Binders>>>>>;
+
+impl Rule<DtaskParts> for Dtask {
+    ghost number = { number_of g.dtask };
+
+    ghost listed = { λ x. dtask_then (dtask_of x) };
+
+    fn build(place: Place, parts: DtaskParts) -> Dtask {
+        let Pair(start, Behind(Pair(duration, Pair(presence, binders)), _)) = parts;
+        Dtask {
+            place,
+            start,
+            duration,
+            presence,
+            binders,
+        }
+    }
+}
 
 impl Part for Dtask {
     ghost symbols = { g.dtask ∷ [] };
@@ -158,17 +200,12 @@ impl Part for Dtask {
     ghost steps = { λ x. dtask_then (dtask_of x) };
 
     fn read(alloc: Global, reader: &mut Reader<'_>) -> Result<Dtask, Failure> {
-        let place = reader.place();
-        let parts = DtaskParts::read(alloc, reader)?;
-        let Pair(start, Pair(_, Pair(duration, Pair(presence, binders)))) = parts;
-        Ok(Dtask {
-            place,
-            start,
-            duration,
-            presence,
-            binders,
-        })
+        read_rule::<DtaskParts, Dtask>(alloc, reader)
     }
+}
+
+impl Grouped<Semicolon> for Dtask {
+    ghost group = { number_of g.more_dtasks };
 }
 
 impl Part for Items<Dtask> {
@@ -177,20 +214,29 @@ impl Part for Items<Dtask> {
     ghost steps = { λ xs. more_dtasks_then (map dtask_of xs) };
 
     fn read(alloc: Global, reader: &mut Reader<'_>) -> Result<Items<Dtask>, Failure> {
-        let mut tasks = Items::new(alloc);
-        'tasks: while reader.accept(Terminal::Semicolon) {
-            let task = Dtask::read(alloc, reader)?;
-            tasks.push(task)?;
-        }
-        Ok(tasks)
+        read_repeated::<Semicolon, Dtask>(alloc, reader)
     }
 }
 
 /// The right side of an item of a packing.
-type LoadParts = Pair<
-    Expr,
-    Pair<Mark<Comma>, Pair<Expr, Pair<Mark<Comma>, Pair<Table, Option<Binders>>>>>,
->;
+type LoadParts = Pair<Expr, Behind<Comma, Pair<Expr, Behind<Comma, Pair<Table, Option<Binders>>>>>>;
+
+impl Rule<LoadParts> for Load {
+    ghost number = { number_of g.load };
+
+    ghost listed = { λ x. load_then (load_of x) };
+
+    fn build(place: Place, parts: LoadParts) -> Load {
+        let Pair(group, Behind(Pair(size, Behind(Pair(Within(costs, _), binders), _)), _)) = parts;
+        Load {
+            place,
+            group,
+            size,
+            costs,
+            binders,
+        }
+    }
+}
 
 impl Part for Load {
     ghost symbols = { g.load ∷ [] };
@@ -198,17 +244,12 @@ impl Part for Load {
     ghost steps = { λ x. load_then (load_of x) };
 
     fn read(alloc: Global, reader: &mut Reader<'_>) -> Result<Load, Failure> {
-        let place = reader.place();
-        let parts = LoadParts::read(alloc, reader)?;
-        let Pair(group, Pair(_, Pair(size, Pair(_, Pair(Within(costs, _), binders))))) = parts;
-        Ok(Load {
-            place,
-            group,
-            size,
-            costs,
-            binders,
-        })
+        read_rule::<LoadParts, Load>(alloc, reader)
     }
+}
+
+impl Grouped<Semicolon> for Load {
+    ghost group = { number_of g.loads };
 }
 
 impl Part for Items<Load> {
@@ -217,11 +258,6 @@ impl Part for Items<Load> {
     ghost steps = { λ xs. loads_then (map load_of xs) };
 
     fn read(alloc: Global, reader: &mut Reader<'_>) -> Result<Items<Load>, Failure> {
-        let mut loads = Items::new(alloc);
-        'loads: while reader.accept(Terminal::Semicolon) {
-            let load = Load::read(alloc, reader)?;
-            loads.push(load)?;
-        }
-        Ok(loads)
+        read_repeated::<Semicolon, Load>(alloc, reader)
     }
 }

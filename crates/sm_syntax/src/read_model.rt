@@ -1,6 +1,7 @@
 //! Reading items, goals and models.
 ghost use Rattle.std.specs.Prelude.{◌≡◌, ◌<◌, ◌∷◌, [], OnOk, length, map, option_map};
 ghost use Rattle.sm_syntax.specs.Grammar as g;
+ghost use Rattle.sm_syntax.specs.Grammars.{number_of};
 ghost use Rattle.sm_syntax.specs.Reading.{Standing, Leads, ReadsWhole, Chooses, ReadsAll};
 ghost use Rattle.sm_syntax.specs.Expressions.{binding_of};
 ghost use Rattle.sm_syntax.specs.Trees.{values_of, kind_of, aim_of, goal_of, item_of, tree_of};
@@ -9,35 +10,39 @@ ghost use Rattle.sm_syntax.specs.Symbols.{begins_item};
 
 use crate::expression::{Binders, Expr};
 use crate::failure::Failure;
-use crate::part::{Mark, Pair, Part, Within, read_behind};
+use crate::group::{Grouped, read_repeated};
+use crate::keyword::{Index, Int, Maximise, Minimise, Post, Real, Satisfy, Set, Var};
+use crate::part::{Behind, Mark, Pair, Part, Within};
+use crate::place::Place;
 use crate::reader::Reader;
-use crate::sign::{Brace, Colon, Equal, Semicolon, Square, To};
+use crate::rule::{Rule, read_rule, read_rule_behind};
+use crate::sign::{Brace, Colon, Comma, Equal, Semicolon, Square, To};
 use crate::terminal::Terminal;
 use crate::tree::{Aim, Cons, Goal, Item, Kind, Name, Tag, Tree, Values};
 use sqlite_items::Items;
 use std::alloc::Global;
 
 /// What stands behind the word of an index set.
-type IndexParts = Pair<
-    Name,
-    Pair<Mark<Equal>, Pair<Expr, Pair<Mark<To>, Pair<Expr, Mark<Semicolon>>>>>,
->;
+type IndexParts = Pair<Name, Behind<Equal, Pair<Expr, Behind<To, Pair<Expr, Mark<Semicolon>>>>>>;
 
-/// Reads an index set.
-fn read_index(alloc: Global, reader: &mut Reader<'_>) -> Result<Item, Failure>
-    requires { Chooses reader.old g.item (g.token_index ∷ g.token_name ∷ g.token_equal ∷ g.expr ∷ g.token_to ∷ g.expr ∷ g.token_semicolon ∷ []) }
-    ensures read { ReadsWhole reader.old (g.item ∷ []) (λ i. item_then (item_of i)) reader.new result }
-    ensures shorter { OnOk result (length reader.new.later < length reader.old.later) }
-{
-    let place = reader.place();
-    let parts = read_behind::<IndexParts>(alloc, reader, Terminal::Index)?;
-    let Pair(name, Pair(_, Pair(least, Pair(_, Pair(greatest, _))))) = parts;
-    Ok(Item::Index {
-        place,
-        name,
-        least,
-        greatest,
-    })
+impl Rule<Behind<Index, IndexParts>> for Item {
+    ghost number = { number_of g.item };
+
+    ghost listed = { λ x. item_then (item_of x) };
+
+    fn build(place: Place, parts: Behind<Index, IndexParts>) -> Item {
+        let Behind(Pair(name, Behind(Pair(least, Behind(Pair(greatest, _), _)), _)), _) = parts;
+        Item::Index {
+            place,
+            name,
+            least,
+            greatest,
+        }
+    }
+}
+
+impl Grouped<Comma> for Name {
+    ghost group = { number_of g.more_sets };
 }
 
 impl Part for Items<Name> {
@@ -46,12 +51,7 @@ impl Part for Items<Name> {
     ghost steps = { list_then g.more_sets (g.token_comma ∷ g.token_name ∷ g.more_sets ∷ []) name_then };
 
     fn read(alloc: Global, reader: &mut Reader<'_>) -> Result<Items<Name>, Failure> {
-        let mut sets = Items::new(alloc);
-        'sets: while reader.accept(Terminal::Comma) {
-            let set = reader.name(alloc)?;
-            sets.push(set)?;
-        }
-        Ok(sets)
+        read_repeated::<Comma, Name>(alloc, reader)
     }
 }
 
@@ -81,29 +81,31 @@ impl Part for Family {
 }
 
 /// Two ends.
-type Range = Pair<Expr, Pair<Mark<To>, Expr>>;
+type Range = Pair<Expr, Behind<To, Expr>>;
 
-/// Reads the values between two ends.
-fn read_range(alloc: Global, reader: &mut Reader<'_>) -> Result<Values, Failure>
-    requires { Chooses reader.old g.values (g.expr ∷ g.token_to ∷ g.expr ∷ []) }
-    ensures { ReadsWhole reader.old (g.values ∷ []) (λ vs. values_then (values_of vs)) reader.new result }
-{
-    let parts = Range::read(alloc, reader)?;
-    let Pair(least, Pair(_, greatest)) = parts;
-    Ok(Values::Range { least, greatest })
+impl Rule<Range> for Values {
+    ghost number = { number_of g.values };
+
+    ghost listed = { λ x. values_then (values_of x) };
+
+    fn build(_place: Place, parts: Range) -> Values {
+        let Pair(least, Behind(greatest, _)) = parts;
+        Values::Range { least, greatest }
+    }
 }
 
 /// A list of values.
 type ValueList = Within<Brace, Pair<Expr, Items<Expr>>>;
 
-/// Reads the values of a list.
-fn read_value_list(alloc: Global, reader: &mut Reader<'_>) -> Result<Values, Failure>
-    requires { Chooses reader.old g.values (g.token_open_brace ∷ g.expr ∷ g.more_exprs ∷ g.token_close_brace ∷ []) }
-    ensures { ReadsWhole reader.old (g.values ∷ []) (λ vs. values_then (values_of vs)) reader.new result }
-{
-    let parts = ValueList::read(alloc, reader)?;
-    let Within(Pair(first, more), _) = parts;
-    Ok(Values::List { first, more })
+impl Rule<ValueList> for Values {
+    ghost number = { number_of g.values };
+
+    ghost listed = { λ x. values_then (values_of x) };
+
+    fn build(_place: Place, parts: ValueList) -> Values {
+        let Within(Pair(first, more), _) = parts;
+        Values::List { first, more }
+    }
 }
 
 impl Part for Values {
@@ -113,50 +115,60 @@ impl Part for Values {
 
     fn read(alloc: Global, reader: &mut Reader<'_>) -> Result<Values, Failure> {
         match reader.terminal() {
-            Terminal::OpenBrace => read_value_list(alloc, reader),
-            _ => read_range(alloc, reader),
+            Terminal::OpenBrace => read_rule::<ValueList, Values>(alloc, reader),
+            _ => read_rule::<Range, Values>(alloc, reader),
         }
     }
 }
 
-/// Reads the kind of variables whose domain is a set.
-fn read_set_kind(alloc: Global, reader: &mut Reader<'_>) -> Result<Kind, Failure>
-    requires { Chooses reader.old g.kind (g.token_set ∷ g.values ∷ []) }
-    ensures { ReadsWhole reader.old (g.kind ∷ []) (λ k. kind_then (kind_of k)) reader.new result }
-{
-    let place = reader.place();
-    let values = read_behind::<Values>(alloc, reader, Terminal::Set)?;
-    Ok(Kind::Set { place, values })
+/// A set of values behind its word.
+type SetParts = Behind<Set, Values>;
+
+impl Rule<SetParts> for Kind {
+    ghost number = { number_of g.kind };
+
+    ghost listed = { λ x. kind_then (kind_of x) };
+
+    fn build(place: Place, parts: SetParts) -> Kind {
+        let Behind(values, _) = parts;
+        Kind::Set { place, values }
+    }
 }
 
-/// Reads the kind of whole variables with two ends.
-fn read_int_kind(alloc: Global, reader: &mut Reader<'_>) -> Result<Kind, Failure>
-    requires { Chooses reader.old g.kind (g.token_int ∷ g.expr ∷ g.token_to ∷ g.expr ∷ []) }
-    ensures { ReadsWhole reader.old (g.kind ∷ []) (λ k. kind_then (kind_of k)) reader.new result }
-{
-    let place = reader.place();
-    let parts = read_behind::<Range>(alloc, reader, Terminal::Int)?;
-    let Pair(least, Pair(_, greatest)) = parts;
-    Ok(Kind::Int {
-        place,
-        least,
-        greatest,
-    })
+/// The two ends of whole variables behind their word.
+type IntParts = Behind<Int, Range>;
+
+impl Rule<IntParts> for Kind {
+    ghost number = { number_of g.kind };
+
+    ghost listed = { λ x. kind_then (kind_of x) };
+
+    fn build(place: Place, parts: IntParts) -> Kind {
+        let Behind(Pair(least, Behind(greatest, _)), _) = parts;
+        Kind::Int {
+            place,
+            least,
+            greatest,
+        }
+    }
 }
 
-/// Reads the kind of real variables.
-fn read_real_kind(alloc: Global, reader: &mut Reader<'_>) -> Result<Kind, Failure>
-    requires { Chooses reader.old g.kind (g.token_real ∷ g.expr ∷ g.token_to ∷ g.expr ∷ []) }
-    ensures { ReadsWhole reader.old (g.kind ∷ []) (λ k. kind_then (kind_of k)) reader.new result }
-{
-    let place = reader.place();
-    let parts = read_behind::<Range>(alloc, reader, Terminal::Real)?;
-    let Pair(least, Pair(_, greatest)) = parts;
-    Ok(Kind::Real {
-        place,
-        least,
-        greatest,
-    })
+/// The two ends of real variables behind their word.
+type RealParts = Behind<Real, Range>;
+
+impl Rule<RealParts> for Kind {
+    ghost number = { number_of g.kind };
+
+    ghost listed = { λ x. kind_then (kind_of x) };
+
+    fn build(place: Place, parts: RealParts) -> Kind {
+        let Behind(Pair(least, Behind(greatest, _)), _) = parts;
+        Kind::Real {
+            place,
+            least,
+            greatest,
+        }
+    }
 }
 
 impl Part for Kind {
@@ -166,31 +178,30 @@ impl Part for Kind {
 
     fn read(alloc: Global, reader: &mut Reader<'_>) -> Result<Kind, Failure> {
         match reader.terminal() {
-            Terminal::Int => read_int_kind(alloc, reader),
-            Terminal::Real => read_real_kind(alloc, reader),
-            _ => read_set_kind(alloc, reader),
+            Terminal::Int => read_rule::<IntParts, Kind>(alloc, reader),
+            Terminal::Real => read_rule::<RealParts, Kind>(alloc, reader),
+            _ => read_rule::<SetParts, Kind>(alloc, reader),
         }
     }
 }
 
 /// What stands behind the word of variables.
-type VarParts = Pair<Name, Pair<Family, Pair<Mark<Colon>, Pair<Kind, Mark<Semicolon>>>>>;
+type VarParts = Pair<Name, Pair<Family, Behind<Colon, Pair<Kind, Mark<Semicolon>>>>>;
 
-/// Reads variables.
-fn read_var(alloc: Global, reader: &mut Reader<'_>) -> Result<Item, Failure>
-    requires { Chooses reader.old g.item (g.token_var ∷ g.token_name ∷ g.family ∷ g.token_colon ∷ g.kind ∷ g.token_semicolon ∷ []) }
-    ensures read { ReadsWhole reader.old (g.item ∷ []) (λ i. item_then (item_of i)) reader.new result }
-    ensures shorter { OnOk result (length reader.new.later < length reader.old.later) }
-{
-    let place = reader.place();
-    let parts = read_behind::<VarParts>(alloc, reader, Terminal::Var)?;
-    let Pair(name, Pair(Family(sets), Pair(_, Pair(kind, _)))) = parts;
-    Ok(Item::Var {
-        place,
-        name,
-        sets,
-        kind,
-    })
+impl Rule<Behind<Var, VarParts>> for Item {
+    ghost number = { number_of g.item };
+
+    ghost listed = { λ x. item_then (item_of x) };
+
+    fn build(place: Place, parts: Behind<Var, VarParts>) -> Item {
+        let Behind(Pair(name, Pair(Family(sets), Behind(Pair(kind, _), _))), _) = parts;
+        Item::Var {
+            place,
+            name,
+            sets,
+            kind,
+        }
+    }
 }
 
 /// The binders that a constraint may have.
@@ -215,21 +226,20 @@ impl Part for Forall {
 /// What stands behind the word of a constraint.
 type PostParts = Pair<Forall, Pair<Cons, Pair<Items<Tag>, Mark<Semicolon>>>>;
 
-/// Reads a constraint with its binders and tags.
-fn read_post(alloc: Global, reader: &mut Reader<'_>) -> Result<Item, Failure>
-    requires { Chooses reader.old g.item (g.token_post ∷ g.forall ∷ g.cons ∷ g.tags ∷ g.token_semicolon ∷ []) }
-    ensures read { ReadsWhole reader.old (g.item ∷ []) (λ i. item_then (item_of i)) reader.new result }
-    ensures shorter { OnOk result (length reader.new.later < length reader.old.later) }
-{
-    let place = reader.place();
-    let parts = read_behind::<PostParts>(alloc, reader, Terminal::Post)?;
-    let Pair(Forall(forall), Pair(cons, Pair(tags, _))) = parts;
-    Ok(Item::Post {
-        place,
-        forall,
-        cons,
-        tags,
-    })
+impl Rule<Behind<Post, PostParts>> for Item {
+    ghost number = { number_of g.item };
+
+    ghost listed = { λ x. item_then (item_of x) };
+
+    fn build(place: Place, parts: Behind<Post, PostParts>) -> Item {
+        let Behind(Pair(Forall(forall), Pair(cons, Pair(tags, _))), _) = parts;
+        Item::Post {
+            place,
+            forall,
+            cons,
+            tags,
+        }
+    }
 }
 
 /// Reads an item.
@@ -238,9 +248,9 @@ fn read_item(alloc: Global, reader: &mut Reader<'_>) -> Result<Item, Failure>
     ensures shorter { OnOk result (length reader.new.later < length reader.old.later) }
 {
     match reader.terminal() {
-        Terminal::Var => read_var(alloc, reader),
-        Terminal::Post => read_post(alloc, reader),
-        _ => read_index(alloc, reader),
+        Terminal::Var => read_rule_behind::<Var, VarParts, Item>(alloc, reader),
+        Terminal::Post => read_rule_behind::<Post, PostParts, Item>(alloc, reader),
+        _ => read_rule_behind::<Index, IndexParts, Item>(alloc, reader),
     }
 }
 
@@ -269,44 +279,49 @@ impl Part for Items<Item> {
     }
 }
 
-/// Reads an aim to make an expression as great as it can be.
-fn read_maximise(alloc: Global, reader: &mut Reader<'_>) -> Result<Aim, Failure>
-    requires { Chooses reader.old g.aim (g.token_maximise ∷ g.expr ∷ []) }
-    ensures { ReadsWhole reader.old (g.aim ∷ []) (λ a. aim_then (aim_of a)) reader.new result }
-{
-    let place = reader.place();
-    let expr = read_behind::<Expr>(alloc, reader, Terminal::Maximise)?;
-    Ok(Aim::Maximise { place, expr })
-}
+impl Rule<Behind<Maximise, Expr>> for Aim {
+    ghost number = { number_of g.aim };
 
-/// Reads an aim to make an expression as small as it can be.
-fn read_minimise(alloc: Global, reader: &mut Reader<'_>) -> Result<Aim, Failure>
-    requires { Chooses reader.old g.aim (g.token_minimise ∷ g.expr ∷ []) }
-    ensures { ReadsWhole reader.old (g.aim ∷ []) (λ a. aim_then (aim_of a)) reader.new result }
-{
-    let place = reader.place();
-    let expr = read_behind::<Expr>(alloc, reader, Terminal::Minimise)?;
-    Ok(Aim::Minimise { place, expr })
-}
+    ghost listed = { λ x. aim_then (aim_of x) };
 
-/// Reads an aim.
-fn read_aim(alloc: Global, reader: &mut Reader<'_>) -> Result<Aim, Failure>
-    ensures { ReadsWhole reader.old (g.aim ∷ []) (λ a. aim_then (aim_of a)) reader.new result }
-{
-    match reader.terminal() {
-        Terminal::Maximise => read_maximise(alloc, reader),
-        _ => read_minimise(alloc, reader),
+    fn build(place: Place, parts: Behind<Maximise, Expr>) -> Aim {
+        let Behind(expr, _) = parts;
+        Aim::Maximise { place, expr }
     }
 }
 
-/// Reads that any solution will do.
-fn read_satisfy(reader: &mut Reader<'_>) -> Result<Goal, Failure>
-    requires { Chooses reader.old g.goal (g.token_satisfy ∷ []) }
-    ensures { ReadsWhole reader.old (g.goal ∷ []) (λ x. goal_then (goal_of x)) reader.new result }
-{
-    let place = reader.place();
-    reader.expect(Terminal::Satisfy)?;
-    Ok(Goal::Satisfy { place })
+impl Rule<Behind<Minimise, Expr>> for Aim {
+    ghost number = { number_of g.aim };
+
+    ghost listed = { λ x. aim_then (aim_of x) };
+
+    fn build(place: Place, parts: Behind<Minimise, Expr>) -> Aim {
+        let Behind(expr, _) = parts;
+        Aim::Minimise { place, expr }
+    }
+}
+
+impl Part for Aim {
+    ghost symbols = { g.aim ∷ [] };
+
+    ghost steps = { λ a. aim_then (aim_of a) };
+
+    fn read(alloc: Global, reader: &mut Reader<'_>) -> Result<Aim, Failure> {
+        match reader.terminal() {
+            Terminal::Maximise => read_rule::<Behind<Maximise, Expr>, Aim>(alloc, reader),
+            _ => read_rule::<Behind<Minimise, Expr>, Aim>(alloc, reader),
+        }
+    }
+}
+
+impl Rule<Mark<Satisfy>> for Goal {
+    ghost number = { number_of g.goal };
+
+    ghost listed = { λ x. goal_then (goal_of x) };
+
+    fn build(place: Place, _parts: Mark<Satisfy>) -> Goal {
+        Goal::Satisfy { place }
+    }
 }
 
 /// Reads an aim as a goal.
@@ -315,7 +330,7 @@ fn read_aims(alloc: Global, reader: &mut Reader<'_>) -> Result<Goal, Failure>
     ensures { ReadsWhole reader.old (g.goal ∷ []) (λ x. goal_then (goal_of x)) reader.new result }
 {
     let place = reader.place();
-    let first = read_aim(alloc, reader)?;
+    let first = Aim::read(alloc, reader)?;
     let more = Items::new(alloc);
     Ok(Goal::Aims { place, first, more })
 }
@@ -329,7 +344,7 @@ impl Part for Goal {
         match reader.terminal() {
             Terminal::Minimise => read_aims(alloc, reader),
             Terminal::Maximise => read_aims(alloc, reader),
-            _ => read_satisfy(reader),
+            _ => read_rule::<Mark<Satisfy>, Goal>(alloc, reader),
         }
     }
 }
@@ -337,16 +352,24 @@ impl Part for Goal {
 /// The right side of a model.
 type TreeParts = Pair<Items<Item>, Pair<Goal, Mark<Semicolon>>>;
 
+impl Rule<TreeParts> for Tree {
+    ghost number = { number_of g.model };
+
+    ghost listed = { λ x. tree_then (tree_of x) };
+
+    fn build(place: Place, parts: TreeParts) -> Tree {
+        let Pair(items, Pair(goal, _)) = parts;
+        Tree { place, items, goal }
+    }
+}
+
 impl Part for Tree {
     ghost symbols = { g.model ∷ [] };
 
     ghost steps = { λ t. tree_then (tree_of t) };
 
     fn read(alloc: Global, reader: &mut Reader<'_>) -> Result<Tree, Failure> {
-        let place = reader.place();
-        let parts = TreeParts::read(alloc, reader)?;
-        let Pair(items, Pair(goal, _)) = parts;
-        Ok(Tree { place, items, goal })
+        read_rule::<TreeParts, Tree>(alloc, reader)
     }
 }
 

@@ -1,17 +1,21 @@
 //! Reading tags.
 ghost use Rattle.std.specs.Prelude.{◌≡◌, ◌<◌, ◌∷◌, [], OnOk, length, map};
 ghost use Rattle.sm_syntax.specs.Grammar as g;
-ghost use Rattle.sm_syntax.specs.Reading.{Standing, Leads, ReadsWhole, Chooses};
+ghost use Rattle.sm_syntax.specs.Grammars.{number_of};
+ghost use Rattle.sm_syntax.specs.Reading.{Standing, Leads, ReadsWhole};
 ghost use Rattle.sm_syntax.specs.Trees.{tag_of};
 ghost use Rattle.sm_syntax.specs.TreeSteps.{level_then, relaxing_then, picking_then, splitting_then, tag_then, tags_then};
 ghost use Rattle.sm_syntax.specs.Symbols.{level_of, relaxing_of, picking_of, splitting_of, begins_tag};
 
 use crate::expression::Expr;
 use crate::failure::Failure;
-use crate::part::Part;
+use crate::keyword::{Branch, Infer, Pick, Relax, Split, Sub};
+use crate::part::{Behind, Part};
+use crate::place::Place;
 use crate::reader::Reader;
+use crate::rule::{Rule, read_rule_behind};
 use crate::terminal::Terminal;
-use crate::tree::{Level, Picking, Relaxing, Splitting, Tag};
+use crate::tree::{Level, Number, Picking, Relaxing, Splitting, Tag};
 use sqlite_items::Items;
 use std::alloc::Global;
 
@@ -27,16 +31,19 @@ fn level_of(terminal: Terminal) -> Option<Level>
     }
 }
 
-/// Reads a level.
-fn read_level(reader: &mut Reader<'_>) -> Result<Level, Failure>
-    ensures { ReadsWhole reader.old (g.level ∷ []) level_then reader.new result }
-{
-    let terminal = reader.terminal();
-    let Some(level) = level_of(terminal) else {
-        return Err(Failure::Syntax);
-    };
-    reader.take(terminal);
-    Ok(level)
+impl Part for Level {
+    ghost symbols = { g.level ∷ [] };
+
+    ghost steps = { level_then };
+
+    fn read(_alloc: Global, reader: &mut Reader<'_>) -> Result<Level, Failure> {
+        let terminal = reader.terminal();
+        let Some(level) = level_of(terminal) else {
+            return Err(Failure::Syntax);
+        };
+        reader.take(terminal);
+        Ok(level)
+    }
 }
 
 /// Whether rows are relaxed, as a token says.
@@ -50,16 +57,19 @@ fn relaxing_of(terminal: Terminal) -> Option<Relaxing>
     }
 }
 
-/// Reads whether rows are relaxed.
-fn read_relaxing(reader: &mut Reader<'_>) -> Result<Relaxing, Failure>
-    ensures { ReadsWhole reader.old (g.relaxing ∷ []) relaxing_then reader.new result }
-{
-    let terminal = reader.terminal();
-    let Some(relaxing) = relaxing_of(terminal) else {
-        return Err(Failure::Syntax);
-    };
-    reader.take(terminal);
-    Ok(relaxing)
+impl Part for Relaxing {
+    ghost symbols = { g.relaxing ∷ [] };
+
+    ghost steps = { relaxing_then };
+
+    fn read(_alloc: Global, reader: &mut Reader<'_>) -> Result<Relaxing, Failure> {
+        let terminal = reader.terminal();
+        let Some(relaxing) = relaxing_of(terminal) else {
+            return Err(Failure::Syntax);
+        };
+        reader.take(terminal);
+        Ok(relaxing)
+    }
 }
 
 /// The way of picking that a token is.
@@ -74,16 +84,19 @@ fn picking_of(terminal: Terminal) -> Option<Picking>
     }
 }
 
-/// Reads a way of picking.
-fn read_picking(reader: &mut Reader<'_>) -> Result<Picking, Failure>
-    ensures { ReadsWhole reader.old (g.picking ∷ []) picking_then reader.new result }
-{
-    let terminal = reader.terminal();
-    let Some(picking) = picking_of(terminal) else {
-        return Err(Failure::Syntax);
-    };
-    reader.take(terminal);
-    Ok(picking)
+impl Part for Picking {
+    ghost symbols = { g.picking ∷ [] };
+
+    ghost steps = { picking_then };
+
+    fn read(_alloc: Global, reader: &mut Reader<'_>) -> Result<Picking, Failure> {
+        let terminal = reader.terminal();
+        let Some(picking) = picking_of(terminal) else {
+            return Err(Failure::Syntax);
+        };
+        reader.take(terminal);
+        Ok(picking)
+    }
 }
 
 /// The way of splitting that a token is.
@@ -98,88 +111,85 @@ fn splitting_of(terminal: Terminal) -> Option<Splitting>
     }
 }
 
-/// Reads a way of splitting.
-fn read_splitting(reader: &mut Reader<'_>) -> Result<Splitting, Failure>
-    ensures { ReadsWhole reader.old (g.splitting ∷ []) splitting_then reader.new result }
-{
-    let terminal = reader.terminal();
-    let Some(splitting) = splitting_of(terminal) else {
-        return Err(Failure::Syntax);
-    };
-    reader.take(terminal);
-    Ok(splitting)
+impl Part for Splitting {
+    ghost symbols = { g.splitting ∷ [] };
+
+    ghost steps = { splitting_then };
+
+    fn read(_alloc: Global, reader: &mut Reader<'_>) -> Result<Splitting, Failure> {
+        let terminal = reader.terminal();
+        let Some(splitting) = splitting_of(terminal) else {
+            return Err(Failure::Syntax);
+        };
+        reader.take(terminal);
+        Ok(splitting)
+    }
 }
 
-/// Reads how much is inferred.
-fn read_infer(reader: &mut Reader<'_>) -> Result<Tag, Failure>
-    requires { Chooses reader.old g.tag (g.token_infer ∷ g.level ∷ []) }
-    ensures read { ReadsWhole reader.old (g.tag ∷ []) (λ t. tag_then (tag_of t)) reader.new result }
-    ensures shorter { OnOk result (length reader.new.later < length reader.old.later) }
-{
-    let place = reader.place();
-    reader.expect(Terminal::Infer)?;
-    let level = read_level(reader)?;
-    Ok(Tag::Infer { place, level })
+impl Rule<Behind<Infer, Level>> for Tag {
+    ghost number = { number_of g.tag };
+
+    ghost listed = { λ t. tag_then (tag_of t) };
+
+    fn build(place: Place, parts: Behind<Infer, Level>) -> Tag {
+        let Behind(level, _) = parts;
+        Tag::Infer { place, level }
+    }
 }
 
-/// Reads whether a constraint is relaxed.
-fn read_relax(reader: &mut Reader<'_>) -> Result<Tag, Failure>
-    requires { Chooses reader.old g.tag (g.token_relax ∷ g.relaxing ∷ []) }
-    ensures read { ReadsWhole reader.old (g.tag ∷ []) (λ t. tag_then (tag_of t)) reader.new result }
-    ensures shorter { OnOk result (length reader.new.later < length reader.old.later) }
-{
-    let place = reader.place();
-    reader.expect(Terminal::Relax)?;
-    let relaxing = read_relaxing(reader)?;
-    Ok(Tag::Relax { place, relaxing })
+impl Rule<Behind<Relax, Relaxing>> for Tag {
+    ghost number = { number_of g.tag };
+
+    ghost listed = { λ t. tag_then (tag_of t) };
+
+    fn build(place: Place, parts: Behind<Relax, Relaxing>) -> Tag {
+        let Behind(relaxing, _) = parts;
+        Tag::Relax { place, relaxing }
+    }
 }
 
-/// Reads a rank among constraints.
-fn read_branch(reader: &mut Reader<'_>) -> Result<Tag, Failure>
-    requires { Chooses reader.old g.tag (g.token_branch ∷ g.token_number ∷ []) }
-    ensures read { ReadsWhole reader.old (g.tag ∷ []) (λ t. tag_then (tag_of t)) reader.new result }
-    ensures shorter { OnOk result (length reader.new.later < length reader.old.later) }
-{
-    let place = reader.place();
-    reader.expect(Terminal::Branch)?;
-    let rank = reader.number()?;
-    Ok(Tag::Branch { place, rank })
+impl Rule<Behind<Branch, Number>> for Tag {
+    ghost number = { number_of g.tag };
+
+    ghost listed = { λ t. tag_then (tag_of t) };
+
+    fn build(place: Place, parts: Behind<Branch, Number>) -> Tag {
+        let Behind(rank, _) = parts;
+        Tag::Branch { place, rank }
+    }
 }
 
-/// Reads which variable is picked.
-fn read_pick(reader: &mut Reader<'_>) -> Result<Tag, Failure>
-    requires { Chooses reader.old g.tag (g.token_pick ∷ g.picking ∷ []) }
-    ensures read { ReadsWhole reader.old (g.tag ∷ []) (λ t. tag_then (tag_of t)) reader.new result }
-    ensures shorter { OnOk result (length reader.new.later < length reader.old.later) }
-{
-    let place = reader.place();
-    reader.expect(Terminal::Pick)?;
-    let picking = read_picking(reader)?;
-    Ok(Tag::Pick { place, picking })
+impl Rule<Behind<Pick, Picking>> for Tag {
+    ghost number = { number_of g.tag };
+
+    ghost listed = { λ t. tag_then (tag_of t) };
+
+    fn build(place: Place, parts: Behind<Pick, Picking>) -> Tag {
+        let Behind(picking, _) = parts;
+        Tag::Pick { place, picking }
+    }
 }
 
-/// Reads how a domain is split.
-fn read_split(reader: &mut Reader<'_>) -> Result<Tag, Failure>
-    requires { Chooses reader.old g.tag (g.token_split ∷ g.splitting ∷ []) }
-    ensures read { ReadsWhole reader.old (g.tag ∷ []) (λ t. tag_then (tag_of t)) reader.new result }
-    ensures shorter { OnOk result (length reader.new.later < length reader.old.later) }
-{
-    let place = reader.place();
-    reader.expect(Terminal::Split)?;
-    let splitting = read_splitting(reader)?;
-    Ok(Tag::Split { place, splitting })
+impl Rule<Behind<Split, Splitting>> for Tag {
+    ghost number = { number_of g.tag };
+
+    ghost listed = { λ t. tag_then (tag_of t) };
+
+    fn build(place: Place, parts: Behind<Split, Splitting>) -> Tag {
+        let Behind(splitting, _) = parts;
+        Tag::Split { place, splitting }
+    }
 }
 
-/// Reads the number of a part of the model.
-fn read_sub(alloc: Global, reader: &mut Reader<'_>) -> Result<Tag, Failure>
-    requires { Chooses reader.old g.tag (g.token_sub ∷ g.expr ∷ []) }
-    ensures read { ReadsWhole reader.old (g.tag ∷ []) (λ t. tag_then (tag_of t)) reader.new result }
-    ensures shorter { OnOk result (length reader.new.later < length reader.old.later) }
-{
-    let place = reader.place();
-    reader.expect(Terminal::Sub)?;
-    let number = Expr::read(alloc, reader)?;
-    Ok(Tag::Sub { place, number })
+impl Rule<Behind<Sub, Expr>> for Tag {
+    ghost number = { number_of g.tag };
+
+    ghost listed = { λ t. tag_then (tag_of t) };
+
+    fn build(place: Place, parts: Behind<Sub, Expr>) -> Tag {
+        let Behind(number, _) = parts;
+        Tag::Sub { place, number }
+    }
 }
 
 /// Reads a tag.
@@ -188,12 +198,12 @@ fn read_tag(alloc: Global, reader: &mut Reader<'_>) -> Result<Tag, Failure>
     ensures shorter { OnOk result (length reader.new.later < length reader.old.later) }
 {
     match reader.terminal() {
-        Terminal::Relax => read_relax(reader),
-        Terminal::Branch => read_branch(reader),
-        Terminal::Pick => read_pick(reader),
-        Terminal::Split => read_split(reader),
-        Terminal::Sub => read_sub(alloc, reader),
-        _ => read_infer(reader),
+        Terminal::Relax => read_rule_behind::<Relax, Relaxing, Tag>(alloc, reader),
+        Terminal::Branch => read_rule_behind::<Branch, Number, Tag>(alloc, reader),
+        Terminal::Pick => read_rule_behind::<Pick, Picking, Tag>(alloc, reader),
+        Terminal::Split => read_rule_behind::<Split, Splitting, Tag>(alloc, reader),
+        Terminal::Sub => read_rule_behind::<Sub, Expr, Tag>(alloc, reader),
+        _ => read_rule_behind::<Infer, Level, Tag>(alloc, reader),
     }
 }
 

@@ -228,3 +228,13 @@ impl Part for Name {
         reader.name(alloc)
     }
 }
+
+impl Part for Number {
+    ghost symbols = { token_number ∷ [] };
+
+    ghost steps = { number_then };
+
+    fn read(_alloc: Global, reader: &mut Reader<'_>) -> Result<Number, Failure> {
+        reader.number()
+    }
+}

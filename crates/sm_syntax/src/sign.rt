@@ -75,6 +75,34 @@ impl Word for Equal {
     ghost plain = { refl };
 }
 
+/// `<=`
+#[derive(Drop)]
+pub struct AtMost;
+
+impl Word for AtMost {
+    ghost terminal = { terminals.AtMost };
+
+    fn terminal() -> Terminal {
+        Terminal::AtMost
+    }
+
+    ghost plain = { refl };
+}
+
+/// `>=`
+#[derive(Drop)]
+pub struct AtLeast;
+
+impl Word for AtLeast {
+    ghost terminal = { terminals.AtLeast };
+
+    fn terminal() -> Terminal {
+        Terminal::AtLeast
+    }
+
+    ghost plain = { refl };
+}
+
 /// `then`
 #[derive(Drop)]
 pub struct Then;

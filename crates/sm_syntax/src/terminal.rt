@@ -1,7 +1,7 @@
 //! Terminals: the kinds of tokens.
 
 /// What a token is to the grammar.
-#[derive(Clone, Copy, Debug, PartialEq, Eq)]
+#[derive(Clone, Copy, PartialEq)]
 pub enum Terminal {
     /// A letter or `_`, then letters, digits and `_`: at most 64 bytes, and no reserved word.
     Name,
@@ -90,7 +90,7 @@ pub enum Terminal {
 }
 
 /// What a byte that isn't inside a token begins.
-#[derive(Clone, Copy, Debug, PartialEq, Eq)]
+#[derive(Clone, Copy)]
 pub enum Piece {
     /// White space, up to the next byte.
     Blank,

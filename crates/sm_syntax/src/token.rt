@@ -12,7 +12,7 @@ use crate::words::reserved_word;
 use sm_words::{LONGEST_NAME, is_digit, is_in_word};
 
 /// A token.
-#[derive(Clone, Copy, Debug)]
+#[derive(Clone, Copy)]
 pub struct Token<'a> {
     pub terminal: Terminal,
     /// Its bytes, lent by the text.

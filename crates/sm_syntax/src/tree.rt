@@ -6,14 +6,14 @@ use crate::place::Place;
 use sqlite_items::Items;
 
 /// A name, with the place of its token.
-#[derive(Debug, Drop)]
+#[derive(Drop)]
 pub struct Name {
     pub place: Place,
     pub text: Items<u8>,
 }
 
 /// A number of at most 18 digits, with the place of its token.
-#[derive(Debug, Drop)]
+#[derive(Drop)]
 pub struct Number {
     pub place: Place,
     pub value: u64,
@@ -107,7 +107,7 @@ pub struct Bind {
 }
 
 /// How a test compares.
-#[derive(Clone, Copy, Debug, PartialEq, Eq)]
+#[derive(Clone, Copy)]
 pub enum Relation {
     Less,
     AtMost,
@@ -118,7 +118,7 @@ pub enum Relation {
 }
 
 /// Whether a term is added or subtracted.
-#[derive(Clone, Copy, Debug, PartialEq, Eq)]
+#[derive(Clone, Copy)]
 pub enum Sign {
     Plus,
     Minus,
@@ -185,7 +185,7 @@ pub enum Cons {
 }
 
 /// Whether choices may be equal, as in `indexsum`, or differ, as in `assign`.
-#[derive(Clone, Copy, Debug, PartialEq, Eq)]
+#[derive(Clone, Copy)]
 pub enum Choosing {
     Indexsum,
     Assign,
@@ -258,7 +258,7 @@ pub struct Lit {
 }
 
 /// How a literal compares.
-#[derive(Clone, Copy, Debug, PartialEq, Eq)]
+#[derive(Clone, Copy)]
 pub enum LitRelation {
     AtMost,
     AtLeast,
@@ -278,7 +278,7 @@ pub enum Tag {
 }
 
 /// How much is inferred.
-#[derive(Clone, Copy, Debug, PartialEq, Eq)]
+#[derive(Clone, Copy)]
 pub enum Level {
     None,
     Bounds,
@@ -286,14 +286,14 @@ pub enum Level {
 }
 
 /// Whether a constraint's rows are relaxed.
-#[derive(Clone, Copy, Debug, PartialEq, Eq)]
+#[derive(Clone, Copy)]
 pub enum Relaxing {
     On,
     None,
 }
 
 /// Which variable is picked.
-#[derive(Clone, Copy, Debug, PartialEq, Eq)]
+#[derive(Clone, Copy)]
 pub enum Picking {
     First,
     Small,
@@ -301,7 +301,7 @@ pub enum Picking {
 }
 
 /// How a domain is split.
-#[derive(Clone, Copy, Debug, PartialEq, Eq)]
+#[derive(Clone, Copy)]
 pub enum Splitting {
     Half,
     Least,

@@ -24,7 +24,7 @@ abbrev pub decreases-read_atom : goal.decreases-read_atom
 decreases-read_atom l = 8 * length l.reader.now.later + 2
 
 abbrev pub decreases-read_formula_group : goal.decreases-read_formula_group
-decreases-read_formula_group l = 8 * length l.reader.now.later + 0
+decreases-read_formula_group l = 8 * length l.reader.now.later + 1
 
 abbrev pub decreases-read_quantified : goal.decreases-read_quantified
 decreases-read_quantified l = 8 * length l.reader.now.later + 1
@@ -32,14 +32,20 @@ decreases-read_quantified l = 8 * length l.reader.now.later + 1
 abbrev pub decreases-read_inner : goal.decreases-read_inner
 decreases-read_inner l = 8 * length l.reader.now.later + 0
 
-abbrev pub invariant-read_disj-conjs : goal.invariant-read_disj-conjs
-invariant-read_disj-conjs l = Leads l.initial.reader (g.more_conjs ∷ []) (each conj_step (map conj_of l.more)) l.reader (g.more_conjs ∷ [])
+abbrev pub decreases-read_more_conjs : goal.decreases-read_more_conjs
+decreases-read_more_conjs l = 8 * length l.reader.now.later
 
-abbrev pub decreases-read_disj-conjs : goal.decreases-read_disj-conjs
-decreases-read_disj-conjs l = length l.reader.later
+abbrev pub decreases-read_more_units : goal.decreases-read_more_units
+decreases-read_more_units l = 8 * length l.reader.now.later
 
-abbrev pub invariant-read_conj-units : goal.invariant-read_conj-units
-invariant-read_conj-units l = Leads l.initial.reader (g.more_units ∷ []) (each unit_step (map unit_of l.more)) l.reader (g.more_units ∷ [])
+abbrev pub invariant-read_more_conjs-conjs : goal.invariant-read_more_conjs-conjs
+invariant-read_more_conjs-conjs l = Leads l.initial.reader (g.more_conjs ∷ []) (each conj_step (map conj_of l.conjs)) l.reader (g.more_conjs ∷ [])
 
-abbrev pub decreases-read_conj-units : goal.decreases-read_conj-units
-decreases-read_conj-units l = length l.reader.later
+abbrev pub decreases-read_more_conjs-conjs : goal.decreases-read_more_conjs-conjs
+decreases-read_more_conjs-conjs l = length l.reader.later
+
+abbrev pub invariant-read_more_units-units : goal.invariant-read_more_units-units
+invariant-read_more_units-units l = Leads l.initial.reader (g.more_units ∷ []) (each unit_step (map unit_of l.units)) l.reader (g.more_units ∷ [])
+
+abbrev pub decreases-read_more_units-units : goal.decreases-read_more_units-units
+decreases-read_more_units-units l = length l.reader.later

@@ -8,7 +8,7 @@ use Rattle.sm_syntax.proofs.read_model.read_aims.Goals as goal
 pub returns-in_err-first : goal.returns-in_err-first
 returns-in_err-first c =
     let p = err_from_is_err_and c.from_residual.result c.from_residual.ensures.1 in
-    rw (p.1, p.2) (rule_fails c.args.reader.now c.read_aim.new.reader c.in_err-first.field-0.0 3 c.requires c.in_err-first.ensures)
+    rw (p.1, p.2) (rule_fails c.args.reader.now c.read.new.reader c.in_err-first.field-0.0 3 c.requires c.in_err-first.ensures)
 
 pub returns : goal.returns
 returns c = restep (goal_then (aims c.place-place.result (aim_of c.in_ok-first.first) (map aim_of c.new-more.result))) (λ r. ap (λ xs. goal_then (aims c.place-place.result (aim_of c.in_ok-first.first) (map aim_of xs)) r) (sym c.new-more.ensures))

@@ -1,14 +1,6 @@
-use Rattle.std.proofs.Common.{refl}
-use Rattle.std.proofs.lemmas.Result.{err_from_is_err_and}
 use Rattle.sm_syntax.specs.Reading.{next}
-use Rattle.sm_syntax.proofs.Readings.{rule_reads, rule_fails}
 use Rattle.sm_syntax.proofs.Predictions as predict
 use Rattle.sm_syntax.proofs.read_formula.LitPart.read.Goals as goal
 
-pub returns-in_err-parts : goal.returns-in_err-parts
-returns-in_err-parts c =
-    let p = err_from_is_err_and c.from_residual.result c.from_residual.ensures.1 in
-    rw (p.1, p.2) (rule_fails c.args.reader.now c.read.new.reader c.in_err-parts.field-0.0 22 (predict.lit_any (next c.args.reader.now)) c.in_err-parts.ensures)
-
-pub returns : goal.returns
-returns c = rule_reads 22 c.place-place.result refl c.place-place.ensures (predict.lit_any (next c.args.reader.now)) c.in_ok-parts.ensures
+pub read_rule-requires : goal.read_rule-requires
+read_rule-requires c = predict.lit_any (next c.args.reader.now)

@@ -1,31 +1,16 @@
-use Rattle.std.proofs.Common.{◌∙◌, ap, sym, refl, ◌∷◌, [], arith, map}
-use Rattle.std.proofs.lemmas.Result.{err_from_is_err_and}
+use Rattle.std.proofs.Common.{◌∷◌, []}
 use Rattle.sm_syntax.specs.Grammar as g
-use Rattle.sm_syntax.proofs.Readings.{after, behind, fault_at, opened_group, begin, one_more, kept}
-use Rattle.sm_syntax.proofs.Predictions as predict
-use Rattle.sm_syntax.proofs.Readings.{map_more}
-use Rattle.sm_syntax.specs.TreeSteps.{item_step, ctask_then}
+use Rattle.sm_syntax.specs.TreeSteps.{ctask_then}
 use Rattle.sm_syntax.specs.Trees.{ctask_of}
+use Rattle.sm_syntax.proofs.Readings.{list_reads}
+use Rattle.sm_syntax.proofs.Predictions as predict
 use Rattle.sm_syntax.proofs.read_list.ItemsCtaskPart.read.Goals as goal
 
-pub tasks-init : goal.tasks-init
-tasks-init c = begin (item_step g.ctasks (g.token_semicolon ∷ g.ctask ∷ g.ctasks ∷ []) ctask_then) (map ctask_of c.new-tasks.result) (ap (map ctask_of) c.new-tasks.ensures) c.args.reader.now (g.ctasks ∷ [])
+pub read_repeated-requires-clause-more : goal.read_repeated-requires-clause-more
+read_repeated-requires-clause-more c = predict.ctasks_some
 
-pub returns-in_err-task : goal.returns-in_err-task
-returns-in_err-task c =
-    let more = after (opened_group c.tasks.reader 43 (g.token_semicolon ∷ g.ctask ∷ g.ctasks ∷ []) refl (predict.ctasks_some c.tasks.reader (sym c.accept.ensures.next ∙ c.tasks-test.true))) (behind (g.ctask ∷ g.ctasks ∷ []) (c.accept.ensures.lead c.tasks-test.true)) in
-    let p = err_from_is_err_and c.from_residual.result c.from_residual.ensures.1 in
-    rw (p.1, p.2) (fault_at c.read.new.reader c.in_err-task.field-0.0 (g.ctask ∷ []) (g.ctasks ∷ []) (after c.tasks.invariant more) c.in_err-task.ensures)
-
-pub tasks-preserved : goal.tasks-preserved
-tasks-preserved c =
-    let more = after (opened_group c.tasks.reader 43 (g.token_semicolon ∷ g.ctask ∷ g.ctasks ∷ []) refl (predict.ctasks_some c.tasks.reader (sym c.accept.ensures.next ∙ c.tasks-test.true))) (behind (g.ctask ∷ g.ctasks ∷ []) (c.accept.ensures.lead c.tasks-test.true)) in
-    one_more (item_step g.ctasks (g.token_semicolon ∷ g.ctask ∷ g.ctasks ∷ []) ctask_then) (map ctask_of c.tasks.tasks) (map ctask_of c.push.new.self) (ctask_of c.in_ok-task.task) (ap (map ctask_of) c.in_ok-push.ensures.ok ∙ map_more ctask_of c.tasks.tasks c.in_ok-task.task) c.tasks.invariant (after more (behind (g.ctasks ∷ []) c.in_ok-task.ensures))
-
-pub tasks-smaller : goal.tasks-smaller
-tasks-smaller c = let s = c.accept.ensures.shorter c.tasks-test.true in let o = c.in_ok-task.ensures.order in omega arith
+pub read_repeated-requires-clause-none : goal.read_repeated-requires-clause-none
+read_repeated-requires-clause-none c = predict.ctasks_none
 
 pub returns : goal.returns
-returns c =
-    let ends = opened_group c.tasks.reader 43 [] refl (predict.ctasks_none c.tasks.reader (sym c.accept.ensures.next ∙ c.tasks-test.false)) in
-    kept (c.accept.ensures.kept c.tasks-test.false) (after c.tasks.invariant ends)
+returns c = list_reads g.ctasks (g.token_semicolon ∷ g.ctask ∷ g.ctasks ∷ []) ctask_then ctask_of c.args.reader.now c.read_repeated.new.reader c.read_repeated.result c.read_repeated.ensures

@@ -7,5 +7,5 @@ read_aims-requires c = predict.goal_minimise c.args.reader.now c.terminal.result
 pub read_aims-requires-in-Maximise : goal.read_aims-requires-in-Maximise
 read_aims-requires-in-Maximise c = predict.goal_maximise c.args.reader.now c.terminal.result c.terminal.ensures c.in-Maximise.is
 
-pub read_satisfy-requires : goal.read_satisfy-requires
-read_satisfy-requires c = predict.goal_else c.args.reader.now c.terminal.result c.terminal.ensures c.in_default.not-Minimise c.in_default.not-Maximise
+pub read_rule-requires : goal.read_rule-requires
+read_rule-requires c = predict.goal_else c.args.reader.now c.terminal.result c.terminal.ensures c.in_default.not-Minimise c.in_default.not-Maximise

@@ -14,28 +14,39 @@ mod subject;
 use crate::parts::Parts;
 use crate::subject::Subject;
 use anyhow::{Context, Result, bail};
-use sm_step::{LineRefusal, print, read};
+use sm_step::{Line, LineRefusal, print, read};
 use std::alloc::Global;
 use std::io::Write;
 use std::{env, fs, io};
 use test_tables::{Answers, Entry, entries_of};
 
-/// Answers whether bytes are a line that is printed as the same bytes, as others, or no line.
-fn answer_reading(alloc: Global, bytes: &[u8], answers: &mut Answers) -> Result<()> {
-    let answer: &[u8] = match read(alloc, bytes) {
-        Ok(line) => {
-            let mut printed = Vec::new(alloc);
-            print(&line, &mut printed).ok().context("memory ran out")?;
-            if printed.as_slice() == bytes {
-                b"same"
-            } else {
-                b"other"
-            }
-        }
-        Err(LineRefusal::BadLine) => b"bad",
+/// Whether a line is printed as these bytes.
+fn is_printed(alloc: Global, line: &Line, bytes: &[u8]) -> Result<bool> {
+    let mut printed = Vec::new(alloc);
+    print(line, &mut printed).ok().context("memory ran out")?;
+    Ok(printed.as_slice() == bytes)
+}
+
+/// Whether bytes are a line that is printed as the same bytes, as others, or no line.
+fn reading_word(
+    alloc: Global,
+    found: &Result<Line, LineRefusal>,
+    bytes: &[u8],
+) -> Result<&'static [u8]> {
+    match found {
+        Ok(line) if is_printed(alloc, line, bytes)? => Ok(b"same"),
+        Ok(_) => Ok(b"other"),
+        Err(LineRefusal::BadLine) => Ok(b"bad"),
         Err(LineRefusal::OutOfMemory) => bail!("memory ran out"),
-    };
-    answers.add(answer)?;
+    }
+}
+
+/// Answers what comes of bytes that are to be a line.
+fn answer_reading(alloc: Global, bytes: &[u8], answers: &mut Answers) -> Result<()> {
+    let found = read(alloc, bytes);
+    let word = reading_word(alloc, &found, bytes);
+    drop(found);
+    answers.add(word?)?;
     Ok(())
 }
 
@@ -57,16 +68,13 @@ impl Case {
     /// Makes the model of the parts.
     fn make(&mut self, alloc: Global, answers: &mut Answers) -> Result<()> {
         let parts = std::mem::replace(&mut self.parts, Parts::new(alloc));
-        self.subject = match parts.into_flat() {
-            Some(flat) => {
-                answers.add(b"model")?;
-                Some(Subject::new(alloc, flat)?)
-            }
-            None => {
-                answers.add(b"no model")?;
-                None
-            }
+        let subject = Subject::of_flat(alloc, parts.into_flat())?;
+        let word: &[u8] = match &subject {
+            Some(_) => b"model",
+            None => b"no model",
         };
+        drop(std::mem::replace(&mut self.subject, subject));
+        answers.add(word)?;
         Ok(())
     }
 
@@ -85,27 +93,42 @@ impl Case {
     }
 }
 
-/// What the cases of a table answer.
-fn answers_of(alloc: Global, table: &str) -> Result<Answers> {
-    let entries = entries_of(alloc, table)?;
-    let mut answers = Answers::new(alloc);
-    let mut case = Case::new(alloc);
-    for entry in entries.iter() {
+/// Begins a case with each entry that names one, and does what each other entry asks for.
+fn take_all(
+    alloc: Global,
+    case: &mut Case,
+    entries: &[Entry],
+    answers: &mut Answers,
+) -> Result<()> {
+    for entry in entries {
         if entry.key.as_str() == "case" {
-            case = Case::new(alloc);
+            drop(std::mem::replace(case, Case::new(alloc)));
             answers.begin(entry.value.as_str())?;
         } else {
-            case.take(alloc, entry, &mut answers)
+            case.take(alloc, entry, answers)
                 .context(format_args!("at {}", entry.value.as_str()))?;
         }
     }
-    Ok(answers)
+    Ok(())
+}
+
+/// Adds what the cases of a table answer.
+fn answer_table(alloc: Global, table: &str, answers: &mut Answers) -> Result<()> {
+    let entries = entries_of(alloc, table)?;
+    let mut case = Case::new(alloc);
+    let taken = take_all(alloc, &mut case, &entries, answers);
+    drop(case);
+    drop(entries);
+    taken
 }
 
 fn main(rt: HostRuntime) -> Result<()> {
     for name in env::args(&rt)?.skip(1) {
         let table = fs::read_to_string(&rt, name.as_str())?;
-        let answers = answers_of(rt.alloc(), table.as_str())?;
+        let mut answers = Answers::new(rt.alloc());
+        let taken = answer_table(rt.alloc(), table.as_str(), &mut answers);
+        drop(table);
+        taken?;
         io::writer(&rt).write_all(answers.text())?;
     }
     Ok(())

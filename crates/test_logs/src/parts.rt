@@ -40,6 +40,8 @@ fn terms_of(alloc: Global, words: SplitWhitespace<'_>) -> Result<Items<(u32, i64
 fn var_of(alloc: Global, mut words: SplitWhitespace<'_>) -> Result<Var> {
     let kind = match words.next() {
         Some("set") => VarKind::Set,
+        Some("int") => VarKind::Int,
+        Some("real") => VarKind::Real,
         _ => bail!("a variable has a kind"),
     };
     let mut values = Vec::new(alloc);

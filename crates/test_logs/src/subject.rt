@@ -1,5 +1,5 @@
 //! A model with a store and the state of a log, and what is asked of them.
-use anyhow::{Context, Result, bail};
+use anyhow::{Context, Error, Result, bail};
 use sm_flat::{Assignment, Flat, Literal, is_assignment, solves, value};
 use sm_rules::{ApplyRefusal, Cause, LogState};
 use sm_step::{Line, LineRefusal, read};
@@ -43,6 +43,15 @@ impl Replay {
             Err(ApplyRefusal::OutOfMemory) => bail!("memory ran out"),
         }
     }
+
+    /// The answer to what was read as a line.
+    fn apply_found(&mut self, found: &Result<Line, LineRefusal>) -> Result<&'static [u8]> {
+        match found {
+            Ok(line) => self.apply(line),
+            Err(LineRefusal::BadLine) => Ok(word_of(Cause::Grammar)),
+            Err(LineRefusal::OutOfMemory) => bail!("memory ran out"),
+        }
+    }
 }
 
 /// A model with its store, narrowed or not, and the state of a log.
@@ -75,13 +84,27 @@ fn assignment_of(alloc: Global, mut words: SplitWhitespace<'_>) -> Result<Option
     Ok(Some(Assignment::new(denominator, Items::from_vec(numerators))))
 }
 
+/// The literal of a line that opens a node.
+fn node_literal(found: &Result<Line, LineRefusal>) -> Option<Literal> {
+    match found {
+        Ok(Line::Node { literal, .. }) => Some(*literal),
+        _ => None,
+    }
+}
+
 /// The literal of a text.
 fn literal_of(alloc: Global, text: &str) -> Result<Literal> {
     let line = format!(in alloc; "node 1 0 {text}\n")?;
-    match read(alloc, line.as_bytes()) {
-        Ok(Line::Node { literal, .. }) => Ok(literal),
-        _ => bail!("{text} is no literal"),
-    }
+    let found = read(alloc, line.as_bytes());
+    let literal = node_literal(&found);
+    drop(found);
+    literal.context("a literal")
+}
+
+/// Answers a text.
+fn add_text(text: Result<String>, answers: &mut Answers) -> Result<()> {
+    answers.add(text?.as_bytes())?;
+    Ok(())
 }
 
 impl Subject {
@@ -89,6 +112,14 @@ impl Subject {
         let store = Store::declared(alloc, &flat)?;
         let replay = Replay::new(alloc, flat)?;
         Ok(Subject { replay, store })
+    }
+
+    /// Of a model, where there is one.
+    pub fn of_flat(alloc: Global, flat: Option<Flat>) -> Result<Option<Subject>> {
+        match flat {
+            Some(flat) => Ok(Some(Subject::new(alloc, flat)?)),
+            None => Ok(None),
+        }
     }
 
     /// Answers what an entry asks.
@@ -100,7 +131,7 @@ impl Subject {
             "narrow" => self.answer_narrow(alloc, text, answers),
             "domain" => self.answer_domain(alloc, text, answers),
             "apply" => self.answer_apply(alloc, &entry.text, answers),
-            "state" => self.answer_state(alloc, answers),
+            "state" => Ok(self.answer_state(alloc, answers)?),
             other => bail!("{other} is no key"),
         }
     }
@@ -119,18 +150,30 @@ impl Subject {
         Ok(())
     }
 
+    /// The value of a level at an assignment.
+    fn value_text(&self, alloc: Global, level: u32, a: &Assignment) -> Result<String> {
+        if level as usize >= self.replay.flat.goals().len() {
+            return Ok(String::from_str(alloc, "no goal")?);
+        }
+        let (numerator, denominator) = value(&self.replay.flat, level, a);
+        Ok(format!(in alloc; "{numerator} over {denominator}")?)
+    }
+
+    /// The value of a level at the assignment that the words say.
+    fn value_at(&self, alloc: Global, level: u32, words: &str) -> Result<String> {
+        let found = assignment_of(alloc, words.split_whitespace())?;
+        let text = match &found {
+            Some(a) => self.value_text(alloc, level, a),
+            None => Err(Error::msg("no assignment")),
+        };
+        drop(found);
+        text
+    }
+
     fn answer_value(&self, alloc: Global, text: &str, answers: &mut Answers) -> Result<()> {
         let (level, rest) = text.split_once(' ').context("a level")?;
         let level = level.parse::<u32>()?;
-        let a = assignment_of(alloc, rest.split_whitespace())?.context("an assignment")?;
-        if level as usize >= self.replay.flat.goals().len() {
-            answers.add(b"no goal")?;
-            return Ok(());
-        }
-        let (numerator, denominator) = value(&self.replay.flat, level, &a);
-        let line = format!(in alloc; "{numerator} over {denominator}")?;
-        answers.add(line.as_bytes())?;
-        Ok(())
+        add_text(self.value_at(alloc, level, rest), answers)
     }
 
     /// Answers what the literal is for all values of its variable, where they agree, and whether it removed one.
@@ -155,34 +198,35 @@ impl Subject {
         Ok(())
     }
 
-    /// Answers what is left of a variable's domain.
-    fn answer_domain(&self, alloc: Global, text: &str, answers: &mut Answers) -> Result<()> {
-        let var = text.parse::<u32>()?;
+    /// What is left of a variable's domain.
+    fn domain_text(&self, alloc: Global, var: u32) -> Result<String> {
         if var as usize >= self.store.len() {
-            answers.add(b"no variable")?;
-            return Ok(());
+            return Ok(String::from_str(alloc, "no variable")?);
         }
         let size = self.store.size(var);
-        let line = match (self.store.bounds(var), self.store.fixed(var)) {
+        let text = match (self.store.bounds(var), self.store.fixed(var)) {
             (_, Some(value)) => format!(in alloc; "fixed {value}")?,
             (Some((least, greatest)), None) => {
                 format!(in alloc; "{size} values from {least} to {greatest}")?
             }
             (None, None) => String::from_str(alloc, "empty")?,
         };
-        answers.add(line.as_bytes())?;
-        Ok(())
+        Ok(text)
+    }
+
+    /// Answers what is left of a variable's domain.
+    fn answer_domain(&self, alloc: Global, text: &str, answers: &mut Answers) -> Result<()> {
+        let var = text.parse::<u32>()?;
+        add_text(self.domain_text(alloc, var), answers)
     }
 
     /// Applies each line of a text.
     fn answer_apply(&mut self, alloc: Global, text: &[u8], answers: &mut Answers) -> Result<()> {
         for piece in text.split_inclusive(|byte| *byte == b'\n') {
-            let answer = match read(alloc, piece) {
-                Ok(line) => self.replay.apply(&line)?,
-                Err(LineRefusal::BadLine) => word_of(Cause::Grammar),
-                Err(LineRefusal::OutOfMemory) => bail!("memory ran out"),
-            };
-            answers.add(answer)?;
+            let found = read(alloc, piece);
+            let answer = self.replay.apply_found(&found);
+            drop(found);
+            answers.add(answer?)?;
         }
         Ok(())
     }
@@ -204,7 +248,8 @@ impl Subject {
         answers.add(focus)
     }
 
-    fn answer_state(&self, alloc: Global, answers: &mut Answers) -> Result<()> {
+    /// Answers how many nodes and cuts there are, and which node is the focus.
+    fn answer_counts(&self, alloc: Global, answers: &mut Answers) -> Result<(), AllocError> {
         let state = &self.replay.state;
         let counts = format!(in alloc;
             "nodes {} kept {} focus {}",
@@ -212,25 +257,47 @@ impl Subject {
             state.kept(),
             state.focus()
         )?;
-        answers.add(counts.as_bytes())?;
+        answers.add(counts.as_bytes())
+    }
+
+    /// Answers the floor of the focus at the first level, where it has one.
+    fn answer_floor(&self, alloc: Global, answers: &mut Answers) -> Result<(), AllocError> {
+        let state = &self.replay.state;
+        let Some(floor) = state.floor(state.focus(), 0) else {
+            return Ok(());
+        };
+        let line = format!(in alloc; "floor {}/{}", floor.n(), floor.d())?;
+        answers.add(line.as_bytes())
+    }
+
+    /// Answers which node waits for its other child, where one does.
+    fn answer_half(&self, alloc: Global, answers: &mut Answers) -> Result<(), AllocError> {
+        let Some((parent, literal)) = self.replay.state.half() else {
+            return Ok(());
+        };
+        let line = format!(in alloc; "half of {parent}: v{} {}", literal.var, literal.bound)?;
+        answers.add(line.as_bytes())
+    }
+
+    /// Answers the best solution so far, where there is one.
+    fn answer_best(&self, alloc: Global, answers: &mut Answers) -> Result<(), AllocError> {
+        let Some(best) = self.replay.state.best() else {
+            return Ok(());
+        };
+        let line = format!(in alloc; "best {:?} over {}", best.values(), best.denominator())?;
+        answers.add(line.as_bytes())
+    }
+
+    fn answer_state(&self, alloc: Global, answers: &mut Answers) -> Result<(), AllocError> {
+        self.answer_counts(alloc, answers)?;
         self.answer_focus(answers)?;
-        if let Some(floor) = state.floor(state.focus(), 0) {
-            let line = format!(in alloc; "floor {}/{}", floor.n(), floor.d())?;
-            answers.add(line.as_bytes())?;
-        }
-        if let Some((parent, literal)) = state.half() {
-            let line = format!(in alloc; "half of {parent}: v{} {}", literal.var, literal.bound)?;
-            answers.add(line.as_bytes())?;
-        }
-        if let Some(best) = state.best() {
-            let line = format!(in alloc; "best {:?} over {}", best.values(), best.denominator())?;
-            answers.add(line.as_bytes())?;
-        }
-        let verdict: &[u8] = match state.verdict() {
+        self.answer_floor(alloc, answers)?;
+        self.answer_half(alloc, answers)?;
+        self.answer_best(alloc, answers)?;
+        let verdict: &[u8] = match self.replay.state.verdict() {
             Some(_) => b"verdict",
             None => b"no verdict",
         };
-        answers.add(verdict)?;
-        Ok(())
+        answers.add(verdict)
     }
 }

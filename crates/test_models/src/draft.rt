@@ -38,10 +38,11 @@ impl Draft {
         }
     }
 
-    fn add_var(&mut self, words: &mut Words<'_>) {
+    /// Adds a variable of a kind, with its values or its ends.
+    fn add_var(&mut self, kind: VarKind, words: &mut Words<'_>) {
         let var = Var {
             name: Items::from_vec(Vec::new(self.alloc)),
-            kind: VarKind::Set,
+            kind,
             values: self.pieces.take_numbers(words),
         };
         words.note(self.vars.push(var).is_ok());
@@ -78,7 +79,9 @@ impl Draft {
     /// Adds the part of an entry.
     pub(crate) fn add(&mut self, key: &str, words: &mut Words<'_>) {
         match key {
-            "var" => self.add_var(words),
+            "var" => self.add_var(VarKind::Set, words),
+            "int" => self.add_var(VarKind::Int, words),
+            "real" => self.add_var(VarKind::Real, words),
             "goal" => self.add_goal(words),
             "sub" => self.tags.sub = Some(words.var()),
             "branch" => self.tags.branch = words.var(),

@@ -1,7 +1,8 @@
 //! Flat models of every kind on tables of cases: puts what each call answered.
 //!
-//! An entry of a table is a line of words, with a blank between each two. The first is its key. The keys of a case: `case` and its name; `var` and its values; `goal`, a sense, a constant and
-//! terms, each a variable's number, a colon and a coefficient; `sub` and `branch`, tags of the next constraint; and constraints:
+//! An entry of a table is a line of words, with a blank between each two. The first is its key. The keys of a case: `case` and its name;
+//! `var` and its values; `int` or `real` and two ends; `goal`, a sense, a constant and terms, each a variable's number, a colon and
+//! a coefficient; `sub` and `branch`, tags of the next constraint; and constraints:
 //!
 //! - `row`, a comparison, a bound and terms
 //! - `clause` and literals, each a variable's number, a test and a bound; `logic`, of the clauses before it

@@ -28,6 +28,35 @@ def span(low, high):
     return list(range(low, high + 1))
 
 
+@dataclass
+class Range:
+    """What lies between two ends, of a variable of kind `int` or `real`."""
+
+    kind: str
+    low: int
+    high: int
+
+    def __contains__(self, value):
+        return self.low <= value <= self.high and (self.kind == "real" or value.denominator == 1)
+
+    def __iter__(self):
+        return iter([self.low, self.high])
+
+
+def whole(low, high):
+    return Range("int", low, high)
+
+
+def real(low, high):
+    return Range("real", low, high)
+
+
+def line_of(domain):
+    """The entry that declares a variable."""
+    word = domain.kind if isinstance(domain, Range) else "var"
+    return word + "".join(f" {value}" for value in domain)
+
+
 def halves(*ends):
     return (2, 1, list(ends))
 
@@ -44,6 +73,11 @@ LINEAR = [
     Case("values past the greatest", [[GREAT - 1, GREAT]], linear([(0, 1)], "<=", GREAT - 1), 0, (2, FINE)),
     Case("fewer values", [span(0, 2), span(0, 2)], linear([(0, 1), (1, 1)], "=", 1), further=[(1, 1, [(0, 2)]), (1, 1, [])]),
     Case("more values", [span(0, 2)], linear([(0, 1)], "=", 1), further=[(1, 1, [(0, 2), (0, 1)])]),
+    Case("of each kind", [span(0, 1), whole(-1, 1), real(-1, 1)], linear([(0, 2), (1, 1), (2, -2)], "<=", 1), further=[halves((-1, 3), (-3, 3), (-3, 3))]),
+    Case("of real variables", [real(-1, 1), real(0, 2)], linear([(0, 3), (1, -2)], "=", 1), further=[halves((-3, 3), (-1, 5)), (3, 1, [(-4, 4), (-1, 7)])]),
+    Case("of a whole variable", [whole(-2, 2)], linear([(0, 3)], ">=", -4), further=[halves((-6, 6)), (3, 1, [(-8, 8)])]),
+    Case("of one number", [whole(1, 1), real(1, 1)], linear([(0, 1), (1, 1)], "=", 2), further=[halves((1, 3), (1, 3))]),
+    Case("great ends", [whole(GREAT - 1, GREAT), real(-GREAT, 1 - GREAT)], linear([(0, 1), (1, 1)], "<=", 0), 0, (2, FINE), [(2, 1, [(2 * GREAT - 3, 2 * GREAT), (-2 * GREAT, 3 - 2 * GREAT)])]),
 ] + [
     Case(f"no terms, 0 {cmp} {bound}", [span(0, 1)], linear([], cmp, bound))
     for cmp in ("<=", ">=", "=") for bound in (-1, 0, 1)
@@ -52,6 +86,7 @@ LINEAR = [
 LOGIC = [
     Case("each test", [span(-1, 2), span(-2, 1)], logic([(0, "<=", 0), (1, "=", 1)], [(0, ">=", 1), (1, "!=", -1)])),
     Case("no clause", [span(0, 1)], logic()),
+    Case("each test of a range", [whole(-1, 2), whole(-2, 1)], logic([(0, "<=", 0), (1, "=", 1)], [(0, ">=", 1), (1, "!=", -1)]), further=[halves((-3, 5), (-5, 3))]),
     Case("a clause without literals", [span(0, 1)], logic([(0, "=", 0)], [])),
     Case("one literal", [span(-1, 2)], logic([(0, "!=", 1)]), further=[halves((-3, 5))]),
     Case("a literal and its complement", [span(-1, 2)], logic([(0, "<=", 0), (0, ">=", 1)]), further=[halves((-3, 5))]),
@@ -69,6 +104,7 @@ WHEN = [
     Case("no terms, always", [span(-1, 2)], when([(0, "<=", 0)], [], "<=", 1)),
     Case("literals that exclude each other", [span(0, 2)], when([(0, "=", 0), (0, "=", 1)], [], "=", 1)),
     Case("the row's own variable", [span(-2, 2)], when([(0, ">=", 0)], [(0, 1)], "=", 1)),
+    Case("a real row", [whole(-1, 2), real(-1, 2)], when([(0, ">=", 1)], [(0, 1), (1, 2)], "<=", 2), further=[halves((-2, 4), (-2, 4))]),
 ]
 
 ALLDIFF = [
@@ -89,6 +125,7 @@ ELEMENT = [
     Case("z among the entries", [span(0, 2), span(-1, 1)], element(0, 1, ["v1", "v1"])),
     Case("x is z", [span(-1, 3)], element(0, 0, [2, 1, "v0", 0])),
     Case("no entries", [span(-1, 1), span(0, 1)], element(0, 1, [])),
+    Case("ranges", [span(0, 2), whole(-1, 2), whole(0, 1)], element(0, 1, ["v2", 2, "v1"])),
     Case("great entries", [span(0, 1), [GREAT - 1, GREAT]], element(0, 1, [GREAT, -GREAT]), 0, (FINE,)),
 ]
 
@@ -101,6 +138,7 @@ TABLES = [
     ("one pick", [span(-1, 3), span(-4, 2)], 1, [(0, [2, -4, 0])]),
     ("the same place", [span(0, 1), span(0, 1), span(0, 1)], 2, [(0, [1, 1]), (1, [0, 0])]),
     ("three tables", [span(0, 2)] * 3 + [span(5, 7)], 3, [(0, [1, 2, 3]), (1, [3, 1, 2]), (2, [2, 3, 1])]),
+    ("z is a range", [span(0, 2), span(0, 1), whole(-1, 4)], 2, [(0, [0, 1, 3]), (1, [1, 0])]),
     ("great members", [span(0, 1), span(0, 1), [-1, 0]], 2, [(0, [GREAT, -GREAT]), (1, [GREAT, -GREAT])]),
 ]
 INDEXSUM = [Case(name, domains, indexsum(z, *picks), further=[(2, 1, [(0, 3)] * len(domains))]) for name, domains, z, picks in TABLES]
@@ -117,6 +155,7 @@ TASKS = [
     ("a start twice", [span(-1, 1)], [(0, 1, 1), (0, 1, 1)]),
     ("a start twice, once without time", [span(-1, 1)], [(0, 1, 1), (0, 0, 2)]),
     ("one is absent at 0", [span(0, 2), span(0, 2), span(0, 1)], [(0, 2, 1), (1, 2, 1, (2, "=", 1))]),
+    ("absent by a range", [span(0, 2), span(0, 2), whole(-1, 1)], [(0, 2, 1), (1, 2, 1, (2, ">=", 0))]),
     ("both may be absent", [span(0, 2), span(0, 2), span(-1, 1)], [(0, 2, 1, (2, "<=", 0)), (1, 2, 2, (2, ">=", 0))]),
     ("absent by their own starts", [span(-1, 2), span(-1, 2)], [(0, 3, 1, (0, "!=", 0)), (1, 1, 2, (0, ">=", 1))]),
     ("four", [span(0, 3)] * 4, [(0, 1, 1), (1, 1, 1), (2, 2, 1), (3, 1, 1)]),
@@ -133,6 +172,7 @@ DISJUNCTIVE = [
 PACKING = [
     Case("two groups", [span(-1, 2), span(0, 1), span(0, 9)], packing(2, [(3, 0), (2, 5)], (0, 2, [1, 3]), (1, 1, [0, 1])), 0, further=[(2, 1, [(-1, 3), (0, 3), (0, 12)])]),
     Case("three items", [span(0, 1)] * 3 + [span(2, 6)], packing(3, [(2, 1), (1, 2)], (0, 1, [0, 1]), (1, 1, [1, 0]), (2, 1, [0, 2]))),
+    Case("z is a range", [span(0, 1)] * 2 + [whole(0, 14)], packing(2, [(9, 4), (9, 7)], (0, 1, [0, 1]), (1, 1, [0, 2])), 0),
     Case("opened once", [span(0, 1)] * 2 + [span(0, 14)], packing(2, [(9, 4), (9, 7)], (0, 1, [0, 1]), (1, 1, [0, 2]))),
     Case("no room, no sizes", [span(0, 1)] * 2 + [span(0, 4)], packing(2, [(0, 1), (0, 2)], (0, 0, [0, 0]), (1, 1, [1, 1]))),
     Case("only sizes of 0", [span(0, 2)] * 2 + [span(0, 6)], packing(2, [(0, 1), (0, 2), (0, 3)], (0, 0, [0, 1, 0]), (1, 0, [1, 0, 0]))),

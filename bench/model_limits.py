@@ -121,6 +121,71 @@ def numbers():
     yield "greatest sub", model(["sub 4294967295", "row <= 0"]), False
 
 
+def ranges():
+    """Variables of kind int and real: their ends, how many there may be, and where each may stand."""
+    for kind in ["int", "real"]:
+        for ends, is_good in [
+            ("0 1", True),
+            ("1 1", True),
+            ("1 0", False),
+            (f"{-SMALL} {SMALL}", True),
+            (f"{-SMALL - 1} 0", False),
+            (f"0 {SMALL + 1}", False),
+            (f"{-(2**63)} {2**63 - 1}", False),
+            ("", False),
+            ("0", False),
+            ("0 1 2", False),
+        ]:
+            yield f"{kind} {ends}", model([], [f"{kind} {ends}"]), is_good
+    # the widths of sets alone are counted
+    full = ["many 64 var 0 4095"]
+    yield "ranges beside sets that are full", model([], full + [f"int 0 {SMALL}", f"real 0 {SMALL}"]), True
+    yield from at_limit("reals", 400, lambda n: model([], [f"many {n} real 0 1"]))
+    yield "many ints", model([], ["many 4096 int 0 1"]), True
+    mixed = ["var 0 1", "int 0 1", "real 0 1"]
+    yield from at_limit("real rows", 400, lambda n: model([f"many {n} row <= 0 2:1"], mixed))
+    yield from at_limit("real rows of when", 400, lambda n: model([f"many {n} when <= 0 0:1 2:1"], mixed))
+    yield from at_limit("real rows of both", 400, lambda n: model(["many 399 row <= 0 2:1", f"many {n - 399} when <= 0 2:1"], mixed))
+    yield "rows of whole variables beside", model(["many 400 row <= 0 2:1", "many 400 row = 0 0:1 1:1", "many 400 when = 0 1:1"], mixed), True
+
+
+def kinds_of_variables():
+    """Each place of a variable with a set, an int and a real."""
+    every, discrete, only_set = {"var", "int", "real"}, {"var", "int"}, {"var"}
+    places = [
+        (every, ["row = 0 0:1 1:1"]),
+        (every, ["when = 0 1:1"]),
+        (discrete, ["if 0 = 0 1 = 0", "when = 0 0:1"]),
+        (discrete, ["clause 0 = 0 1 = 0", "logic"]),
+        (only_set, ["alldiff 0 1"]),
+        (only_set, ["circuit 0 1"]),
+        (only_set, ["element 1 0 7"]),
+        (discrete, ["element 0 1 7"]),
+        (discrete, ["element 0 0 7 v1"]),
+        (only_set, ["pick 1 7", "indexsum 0"]),
+        (discrete, ["pick 0 7", "indexsum 1"]),
+        (only_set, ["pick 1 7", "assign 0"]),
+        (discrete, ["pick 0 7", "assign 1"]),
+        (only_set, ["task 1 1 1", "cumulative 5"]),
+        (discrete, ["task 0 1 1 1 = 0", "cumulative 5"]),
+        (only_set, ["task 1 1 1", "disjunctive"]),
+        (discrete, ["task 0 1 1 1 = 0", "disjunctive"]),
+        (only_set, ["capacities 5", "opening 5", "item 1 1 1", "packing 0"]),
+        (discrete, ["capacities 5", "opening 5", "item 0 1 1", "packing 1"]),
+    ]
+    for kind in ["var", "int", "real"]:
+        variables = ["var 0 1", f"{kind} 0 1"]
+        for allowed, lines in places:
+            yield f"{kind}: " + ", ".join(lines), model(lines, variables), kind in allowed
+        for allowed, goals in [
+            (every, ["goal minimise 0 1:1"]),
+            (every, ["goal minimise 0 0:1", "goal maximise 0 0:1 1:1"]),
+            (discrete, ["goal minimise 0 1:1", "goal maximise 0 0:1"]),
+            (discrete, ["goal minimise 0 1:1", "goal maximise 0 1:1"]),
+        ]:
+            yield f"{kind}: " + ", ".join(goals), model([], variables, goals), kind in allowed
+
+
 def horizons():
     """Two tasks: how far the last may end after the first may start."""
     for kind in ["cumulative 9", "disjunctive"]:
@@ -209,5 +274,5 @@ def unknown():
 
 
 def cases():
-    for part in (counts, totals, numbers, horizons, misfits, unknown):
+    for part in (counts, totals, numbers, ranges, kinds_of_variables, horizons, misfits, unknown):
         yield from part()

@@ -60,7 +60,7 @@ def questions(case):
 
 def kind_rows(cases):
     for case in cases:
-        lines = ["var" + "".join(f" {value}" for value in domain) for domain in case.domains]
+        lines = [model_cases.line_of(domain) for domain in case.domains]
         asked = list(questions(case))
         lines += case.constraint.lines + ["goal satisfy 0", "model"] + [line for line, _ in asked]
         yield case.name, lines, ["model"] + [answer for _, answer in asked]

@@ -6,12 +6,19 @@ usage: time_dives.py PROGRAM [BEFORE] [--rounds N]
 PROGRAM is what `rt run` builds, crates/simpl/out/simpl; BEFORE is the same of an older commit, built in a checkout of its own.
 With both, each round runs one after the other, and a ratio is the older one's number divided by the newer one's. The least time
 and the least peak of all rounds count. Seconds are those of the processor; a peak is the greatest resident set of the process.
+A run that wants more than 12 GB is shown as `none`.
 """
 import os
 import re
+import resource
+import subprocess
 import sys
 import tempfile
 from pathlib import Path
+
+# the status for want of memory, and the bytes that a run may take
+OUT_OF_MEMORY = 12
+MEMORY = 12 << 30
 
 EXAMPLE = Path(__file__).resolve().parent.parent / "examples" / "first" / "eight.simpl"
 
@@ -30,32 +37,42 @@ def models():
         yield f"eight.simpl, bound {bound}", re.sub(r">= \d+", f">= {bound}", text)
 
 
+def limit_memory():
+    resource.setrlimit(resource.RLIMIT_AS, (MEMORY, MEMORY))
+
+
 def run(words, output):
-    """The processor's seconds and the peak in megabytes of a run."""
-    child = os.fork()
-    if child == 0:
-        file = os.open(output, os.O_WRONLY | os.O_CREAT | os.O_TRUNC)
-        os.dup2(file, 1)
-        os.execv(words[0], words)
-    _, status, usage = os.wait4(child, 0)
+    """The processor's seconds and the peak in megabytes of a run; none where it ran out of memory."""
+    with open(output, "wb") as log, tempfile.NamedTemporaryFile("r") as told:
+        # a child's peak begins with that of the process that it was forked from, so that is a small one
+        timed = ["/usr/bin/time", "-q", "-o", told.name, "-f", "%M", *words]
+        timed_run = subprocess.Popen(timed, stdout=log, preexec_fn=limit_memory)
+        _, status, usage = os.wait4(timed_run.pid, 0)
+        peak = told.read().split()[-1]
     code = os.waitstatus_to_exitcode(status)
+    if code == OUT_OF_MEMORY:
+        return None
     if code not in (0, 1):
         sys.exit(f"{' '.join(words)}: status {code}")
-    return usage.ru_utime + usage.ru_stime, usage.ru_maxrss / 1024
+    return usage.ru_utime + usage.ru_stime, int(peak) / 1024
 
 
 def least(programs, words, outputs, rounds):
     best = [(1e9, 1e9)] * len(programs)
     for _ in range(rounds):
         for k, program in enumerate(programs):
-            seconds, peak = run([program, *words[k]], outputs[k])
-            best[k] = (min(best[k][0], seconds), min(best[k][1], peak))
+            if best[k] is None:
+                continue
+            found = run([program, *words[k]], outputs[k])
+            best[k] = found and (min(best[k][0], found[0]), min(best[k][1], found[1]))
     return best
 
 
 def row(name, best):
     cells = [f"{best[0][0]:.3f}", f"{best[0][1]:.1f}"]
-    if len(best) == 2:
+    if len(best) == 2 and best[1] is None:
+        cells += ["none", f"over {MEMORY >> 20:,}", "-", "-"]
+    elif len(best) == 2:
         cells += [f"{best[1][0]:.3f}", f"{best[1][1]:.1f}"]
         cells += [f"{best[1][0] / max(best[0][0], 0.001):.1f}", f"{best[1][1] / best[0][1]:.1f}"]
     print(f"| {name} | " + " | ".join(cells) + " |", flush=True)
@@ -73,8 +90,11 @@ def main():
             model = f"{folder}/model.simpl"
             Path(model).write_text(text)
             logs = [f"{folder}/log{k}" for k in range(len(programs))]
-            row(f"solve {name}", least(programs, [["solve", model]] * len(programs), logs, rounds))
-            checks = [["check", model, log] for log in logs]
+            best = least(programs, [["solve", model]] * len(programs), logs, rounds)
+            row(f"solve {name}", best)
+            # a program that has no log checks the newer one's
+            whole = [log if it else logs[0] for log, it in zip(logs, best)]
+            checks = [["check", model, log] for log in whole]
             row(f"check {name}", least(programs, checks, [os.devnull] * len(programs), rounds))
 
 

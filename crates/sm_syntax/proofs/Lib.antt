@@ -13,3 +13,4 @@ pub mod Choices
 pub mod Lists
 pub mod OneTree
 pub mod WholeTexts
+pub mod WordTables

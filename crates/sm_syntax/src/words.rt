@@ -1,184 +1,116 @@
 //! The reserved words.
-ghost use Rattle.std.specs.Prelude.{◌≡◌};
-ghost use Rattle.sm_syntax.specs.Words.{item_word, goal_word, binder_word, constraint_word, grouping_word, formula_word, tag_word, level_word, branching_word, outline_word, body_word, setting_word, reserved_word};
+ghost use Rattle.std.specs.Prelude.{◌≡◌, ◌∷◌, []};
+ghost use Rattle.sm_syntax.specs.Words.{terminal_in, item_word, goal_word, binder_word, constraint_word, grouping_word, formula_word, tag_word, level_word, branching_word, outline_word, body_word, setting_word, reserved_word};
 
 use crate::terminal::Terminal;
+
+/// The terminal, where the word is this text.
+fn terminal_if(word: &[u8], text: &[u8], terminal: Terminal) -> Option<Terminal>
+    ensures { result ≡ terminal_in ((text.now, terminal) ∷ []) word.now }
+{
+    if word == text { Some(terminal) } else { None }
+}
 
 /// A word of an item.
 fn item_word(word: &[u8]) -> Option<Terminal>
     ensures { result ≡ item_word word.now }
 {
-    if word == b"index".as_slice() {
-        Some(Terminal::Index)
-    } else if word == b"var".as_slice() {
-        Some(Terminal::Var)
-    } else if word == b"post".as_slice() {
-        Some(Terminal::Post)
-    } else if word == b"forall".as_slice() {
-        Some(Terminal::Forall)
-    } else if word == b"set".as_slice() {
-        Some(Terminal::Set)
-    } else if word == b"int".as_slice() {
-        Some(Terminal::Int)
-    } else if word == b"real".as_slice() {
-        Some(Terminal::Real)
-    } else {
-        None
-    }
+    terminal_if(word, b"index", Terminal::Index)
+        .or(terminal_if(word, b"var", Terminal::Var))
+        .or(terminal_if(word, b"post", Terminal::Post))
+        .or(terminal_if(word, b"forall", Terminal::Forall))
+        .or(terminal_if(word, b"set", Terminal::Set))
+        .or(terminal_if(word, b"int", Terminal::Int))
+        .or(terminal_if(word, b"real", Terminal::Real))
 }
 
 /// A word of a goal.
 fn goal_word(word: &[u8]) -> Option<Terminal>
     ensures { result ≡ goal_word word.now }
 {
-    if word == b"satisfy".as_slice() {
-        Some(Terminal::Satisfy)
-    } else if word == b"minimise".as_slice() {
-        Some(Terminal::Minimise)
-    } else if word == b"maximise".as_slice() {
-        Some(Terminal::Maximise)
-    } else {
-        None
-    }
+    terminal_if(word, b"satisfy", Terminal::Satisfy)
+        .or(terminal_if(word, b"minimise", Terminal::Minimise))
+        .or(terminal_if(word, b"maximise", Terminal::Maximise))
 }
 
 /// A word of binders and sums.
 fn binder_word(word: &[u8]) -> Option<Terminal>
     ensures { result ≡ binder_word word.now }
 {
-    if word == b"if".as_slice() {
-        Some(Terminal::If)
-    } else if word == b"and".as_slice() {
-        Some(Terminal::And)
-    } else if word == b"in".as_slice() {
-        Some(Terminal::In)
-    } else if word == b"for".as_slice() {
-        Some(Terminal::For)
-    } else if word == b"sum".as_slice() {
-        Some(Terminal::Sum)
-    } else {
-        None
-    }
+    terminal_if(word, b"if", Terminal::If)
+        .or(terminal_if(word, b"and", Terminal::And))
+        .or(terminal_if(word, b"in", Terminal::In))
+        .or(terminal_if(word, b"for", Terminal::For))
+        .or(terminal_if(word, b"sum", Terminal::Sum))
 }
 
 /// A word of a constraint.
 fn constraint_word(word: &[u8]) -> Option<Terminal>
     ensures { result ≡ constraint_word word.now }
 {
-    if word == b"logic".as_slice() {
-        Some(Terminal::Logic)
-    } else if word == b"when".as_slice() {
-        Some(Terminal::When)
-    } else if word == b"then".as_slice() {
-        Some(Terminal::Then)
-    } else if word == b"alldiff".as_slice() {
-        Some(Terminal::Alldiff)
-    } else if word == b"circuit".as_slice() {
-        Some(Terminal::Circuit)
-    } else if word == b"element".as_slice() {
-        Some(Terminal::Element)
-    } else {
-        None
-    }
+    terminal_if(word, b"logic", Terminal::Logic)
+        .or(terminal_if(word, b"when", Terminal::When))
+        .or(terminal_if(word, b"then", Terminal::Then))
+        .or(terminal_if(word, b"alldiff", Terminal::Alldiff))
+        .or(terminal_if(word, b"circuit", Terminal::Circuit))
+        .or(terminal_if(word, b"element", Terminal::Element))
 }
 
 /// A word of a constraint over choices, tasks or groups.
 fn grouping_word(word: &[u8]) -> Option<Terminal>
     ensures { result ≡ grouping_word word.now }
 {
-    if word == b"indexsum".as_slice() {
-        Some(Terminal::Indexsum)
-    } else if word == b"assign".as_slice() {
-        Some(Terminal::Assign)
-    } else if word == b"cumulative".as_slice() {
-        Some(Terminal::Cumulative)
-    } else if word == b"disjunctive".as_slice() {
-        Some(Terminal::Disjunctive)
-    } else if word == b"packing".as_slice() {
-        Some(Terminal::Packing)
-    } else {
-        None
-    }
+    terminal_if(word, b"indexsum", Terminal::Indexsum)
+        .or(terminal_if(word, b"assign", Terminal::Assign))
+        .or(terminal_if(word, b"cumulative", Terminal::Cumulative))
+        .or(terminal_if(word, b"disjunctive", Terminal::Disjunctive))
+        .or(terminal_if(word, b"packing", Terminal::Packing))
 }
 
 /// A word of a formula.
 fn formula_word(word: &[u8]) -> Option<Terminal>
     ensures { result ≡ formula_word word.now }
 {
-    if word == b"implies".as_slice() {
-        Some(Terminal::Implies)
-    } else if word == b"iff".as_slice() {
-        Some(Terminal::Iff)
-    } else if word == b"or".as_slice() {
-        Some(Terminal::Or)
-    } else if word == b"not".as_slice() {
-        Some(Terminal::Not)
-    } else if word == b"all".as_slice() {
-        Some(Terminal::All)
-    } else if word == b"any".as_slice() {
-        Some(Terminal::Any)
-    } else {
-        None
-    }
+    terminal_if(word, b"implies", Terminal::Implies)
+        .or(terminal_if(word, b"iff", Terminal::Iff))
+        .or(terminal_if(word, b"or", Terminal::Or))
+        .or(terminal_if(word, b"not", Terminal::Not))
+        .or(terminal_if(word, b"all", Terminal::All))
+        .or(terminal_if(word, b"any", Terminal::Any))
 }
 
 /// A word that begins a tag.
 fn tag_word(word: &[u8]) -> Option<Terminal>
     ensures { result ≡ tag_word word.now }
 {
-    if word == b"infer".as_slice() {
-        Some(Terminal::Infer)
-    } else if word == b"relax".as_slice() {
-        Some(Terminal::Relax)
-    } else if word == b"branch".as_slice() {
-        Some(Terminal::Branch)
-    } else if word == b"pick".as_slice() {
-        Some(Terminal::Pick)
-    } else if word == b"split".as_slice() {
-        Some(Terminal::Split)
-    } else if word == b"sub".as_slice() {
-        Some(Terminal::Sub)
-    } else {
-        None
-    }
+    terminal_if(word, b"infer", Terminal::Infer)
+        .or(terminal_if(word, b"relax", Terminal::Relax))
+        .or(terminal_if(word, b"branch", Terminal::Branch))
+        .or(terminal_if(word, b"pick", Terminal::Pick))
+        .or(terminal_if(word, b"split", Terminal::Split))
+        .or(terminal_if(word, b"sub", Terminal::Sub))
 }
 
 /// A word of a level, or of whether a row is relaxed.
 fn level_word(word: &[u8]) -> Option<Terminal>
     ensures { result ≡ level_word word.now }
 {
-    if word == b"none".as_slice() {
-        Some(Terminal::None)
-    } else if word == b"bounds".as_slice() {
-        Some(Terminal::Bounds)
-    } else if word == b"full".as_slice() {
-        Some(Terminal::Full)
-    } else if word == b"on".as_slice() {
-        Some(Terminal::On)
-    } else {
-        None
-    }
+    terminal_if(word, b"none", Terminal::None)
+        .or(terminal_if(word, b"bounds", Terminal::Bounds))
+        .or(terminal_if(word, b"full", Terminal::Full))
+        .or(terminal_if(word, b"on", Terminal::On))
 }
 
 /// A word of how a variable is picked, or its domain split.
 fn branching_word(word: &[u8]) -> Option<Terminal>
     ensures { result ≡ branching_word word.now }
 {
-    if word == b"first".as_slice() {
-        Some(Terminal::First)
-    } else if word == b"small".as_slice() {
-        Some(Terminal::Small)
-    } else if word == b"point".as_slice() {
-        Some(Terminal::Point)
-    } else if word == b"half".as_slice() {
-        Some(Terminal::Half)
-    } else if word == b"least".as_slice() {
-        Some(Terminal::Least)
-    } else if word == b"most".as_slice() {
-        Some(Terminal::Most)
-    } else {
-        None
-    }
+    terminal_if(word, b"first", Terminal::First)
+        .or(terminal_if(word, b"small", Terminal::Small))
+        .or(terminal_if(word, b"point", Terminal::Point))
+        .or(terminal_if(word, b"half", Terminal::Half))
+        .or(terminal_if(word, b"least", Terminal::Least))
+        .or(terminal_if(word, b"most", Terminal::Most))
 }
 
 /// A reserved word of a model's outline or of its binders.

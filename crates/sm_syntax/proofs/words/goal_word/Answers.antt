@@ -1,0 +1,6 @@
+use Rattle.sm_syntax.specs.Words.{goal_words}
+use Rattle.sm_syntax.proofs.WordTables.{found_first}
+use Rattle.sm_syntax.proofs.words.goal_word.Goals as goal
+
+pub returns : goal.returns
+returns c = rw (c.or-2.ensures, c.terminal_if-3.ensures, c.or.ensures, c.terminal_if-2.ensures, c.terminal_if.ensures) (found_first goal_words c.args.word.now)

@@ -14,6 +14,21 @@ fn cause_word(cause: DataCause) -> &'static [u8] {
     }
 }
 
+/// A limit that a file passes.
+fn limit_text(
+    alloc: Global,
+    what: Counted,
+    found: i128,
+    bound: i128,
+) -> Result<String, AllocError> {
+    let word = if what == Counted::Entry {
+        "entry"
+    } else {
+        "another limit"
+    };
+    format!(in alloc; "{word} {found} {bound}")
+}
+
 /// Adds a file, and answers `added`, or the refusal.
 pub fn add(
     alloc: Global,
@@ -26,15 +41,18 @@ pub fn add(
         Ok(()) => answers.add(b"added")?,
         Err(DataRefusal::BadData { cause }) => answers.add(cause_word(cause))?,
         Err(DataRefusal::Limit { what, found, bound }) => {
-            let word = if what == Counted::Entry {
-                "entry"
-            } else {
-                "another limit"
-            };
-            let line = format!(in alloc; "{word} {found} {bound}")?;
-            answers.add(line.as_bytes())?;
+            answers.add(limit_text(alloc, what, found, bound)?.as_bytes())?
         }
         Err(DataRefusal::OutOfMemory) => bail!("memory ran out"),
+    }
+    Ok(())
+}
+
+/// Adds numbers to a line, each behind a space.
+fn push_numbers(alloc: Global, line: &mut String, numbers: &[i64]) -> Result<(), AllocError> {
+    for number in numbers {
+        let one = format!(in alloc; " {number}")?;
+        line.push_str(one.as_str())?;
     }
     Ok(())
 }
@@ -47,10 +65,7 @@ fn add_numbers(
     answers: &mut Answers,
 ) -> Result<(), AllocError> {
     let mut line = String::from_str(alloc, word)?;
-    for number in numbers {
-        let one = format!(in alloc; " {number}")?;
-        line.push_str(one.as_str())?;
-    }
+    push_numbers(alloc, &mut line, numbers)?;
     answers.add(line.as_bytes())
 }
 

@@ -39,29 +39,44 @@ fn take(alloc: Global, tables: &mut Tables, entry: &Entry, answers: &mut Answers
     }
 }
 
-/// What the cases of a table answer.
-fn answers_of(alloc: Global, table: &str) -> Result<Answers> {
-    let entries = entries_of(alloc, table)?;
-    let mut answers = Answers::new(alloc);
-    let mut tables = Tables::new(alloc);
-    for entry in entries.iter() {
+/// Begins a case with each entry that names one, and does what each other entry asks for.
+fn take_all(
+    alloc: Global,
+    tables: &mut Tables,
+    entries: &[Entry],
+    answers: &mut Answers,
+) -> Result<()> {
+    for entry in entries {
         if entry.key.as_str() == "case" {
-            tables = Tables::new(alloc);
+            drop(std::mem::replace(tables, Tables::new(alloc)));
             answers.begin(entry.value.as_str())?;
         } else {
-            take(alloc, &mut tables, entry, &mut answers).context(format_args!(
+            take(alloc, tables, entry, answers).context(format_args!(
                 "at {}",
                 entry.value.as_str()
             ))?;
         }
     }
-    Ok(answers)
+    Ok(())
+}
+
+/// Adds what the cases of a table answer.
+fn answer_table(alloc: Global, table: &str, answers: &mut Answers) -> Result<()> {
+    let entries = entries_of(alloc, table)?;
+    let mut tables = Tables::new(alloc);
+    let taken = take_all(alloc, &mut tables, &entries, answers);
+    drop(tables);
+    drop(entries);
+    taken
 }
 
 fn main(rt: HostRuntime) -> Result<()> {
     for name in env::args(&rt)?.skip(1) {
         let table = fs::read_to_string(&rt, name.as_str())?;
-        let answers = answers_of(rt.alloc(), table.as_str())?;
+        let mut answers = Answers::new(rt.alloc());
+        let taken = answer_table(rt.alloc(), table.as_str(), &mut answers);
+        drop(table);
+        taken?;
         io::writer(&rt).write_all(answers.text())?;
     }
     Ok(())

@@ -10,7 +10,7 @@ ghost use Rattle.sm_syntax.specs.Symbols.{sign_of, relation_of, begins_sign};
 use crate::expression::{Addend, Binders, Expr, Factor, Term, Test};
 use crate::failure::Failure;
 use crate::group::{Grouped, read_repeated};
-use crate::part::{Behind, Pair, Part, gathered};
+use crate::part::{Behind, Pair, Part, gathered, joined};
 use crate::place::Place;
 use crate::reader::Reader;
 use crate::rule::{Rule, read_rule};
@@ -134,7 +134,9 @@ fn read_expr(alloc: Global, reader: &mut Reader<'_>) -> Result<Expr, Failure>
     let place = reader.place();
     let is_negated = read_minus(reader);
     let first = read_term(alloc, reader)?;
-    let more = read_more_terms(alloc, reader)?;
+    let more = read_more_terms(alloc, reader);
+    let parts = joined(first, more)?;
+    let Pair(first, more) = parts;
     Ok(Expr::new(place, is_negated, first, more))
 }
 
@@ -160,7 +162,9 @@ fn read_term(alloc: Global, reader: &mut Reader<'_>) -> Result<Term, Failure>
 {
     let place = reader.place();
     let first = read_factor(alloc, reader)?;
-    let more = read_more_factors(alloc, reader)?;
+    let more = read_more_factors(alloc, reader);
+    let parts = joined(first, more)?;
+    let Pair(first, more) = parts;
     Ok(Term::new(place, first, more))
 }
 
@@ -220,12 +224,27 @@ fn read_indices(alloc: Global, reader: &mut Reader<'_>) -> Result<Items<Expr>, F
     if !reader.is(Terminal::OpenSquare) {
         return Ok(Items::new(alloc));
     }
+    let opened = read_opened_indices(alloc, reader)?;
+    let closed = reader.close(Terminal::CloseSquare);
+    let parts = joined(opened, closed)?;
+    let Pair(Pair(first, more), _) = parts;
+    let indices = gathered(alloc, first, more)?;
+    Ok(indices)
+}
+
+/// Reads the indices with the bracket before them.
+#[cycle(expression)]
+fn read_opened_indices(
+    alloc: Global,
+    reader: &mut Reader<'_>,
+) -> Result<Pair<Expr, Items<Expr>>, Failure>
+    ensures { ReadsWhole reader.old (g.token_open_square ∷ g.expr ∷ g.more_exprs ∷ []) (λ p r. expression_then (expression_of p.0) (more_exprs_then (map expression_of p.1) r)) reader.new result }
+{
     reader.open(Terminal::OpenSquare)?;
     let first = read_expr(alloc, reader)?;
-    let more = read_more_exprs(alloc, reader)?;
-    let indices = gathered(alloc, first, more)?;
-    reader.close(Terminal::CloseSquare)?;
-    Ok(indices)
+    let more = read_more_exprs(alloc, reader);
+    let parts = joined(first, more)?;
+    Ok(parts)
 }
 
 /// Reads the further expressions of a list.
@@ -310,7 +329,9 @@ fn read_tests(alloc: Global, reader: &mut Reader<'_>) -> Result<Items<Test>, Fai
         return Ok(Items::new(alloc));
     }
     let first = read_test(alloc, reader)?;
-    let more = read_more_tests(alloc, reader)?;
+    let more = read_more_tests(alloc, reader);
+    let parts = joined(first, more)?;
+    let Pair(first, more) = parts;
     let tests = gathered(alloc, first, more)?;
     Ok(tests)
 }
@@ -335,9 +356,20 @@ fn read_test(alloc: Global, reader: &mut Reader<'_>) -> Result<Test, Failure>
 {
     let place = reader.place();
     let left = read_expr(alloc, reader)?;
+    let comparison = read_comparison(alloc, reader);
+    let parts = joined(left, comparison)?;
+    let Pair(left, Pair(relation, right)) = parts;
+    Ok(Test::new(place, left, relation, right))
+}
+
+/// Reads the relation of a test and the expression behind it.
+#[cycle(expression)]
+fn read_comparison(alloc: Global, reader: &mut Reader<'_>) -> Result<Pair<Relation, Expr>, Failure>
+    ensures { ReadsWhole reader.old (g.relation ∷ g.expr ∷ []) (λ p r. relation_then p.0 (expression_then (expression_of p.1) r)) reader.new result }
+{
     let relation = read_relation(reader)?;
     let right = read_expr(alloc, reader)?;
-    Ok(Test::new(place, left, relation, right))
+    Ok(Pair(relation, right))
 }
 
 impl Part for Expr {

@@ -2,7 +2,7 @@ use Rattle.std.proofs.Common.{◌≡◌, ◌∙◌, ap, sym, refl, ◌∷◌, []
 use Rattle.std.proofs.lemmas.Result.{err_from_is_err_and}
 use Rattle.sm_syntax.specs.Grammar as g
 use Rattle.sm_syntax.specs.Reading.{next}
-use Rattle.sm_syntax.proofs.Readings.{stay, after, behind, restep, fault_at, opened_group, opened_rule, begin, one_more, kept}
+use Rattle.sm_syntax.proofs.Readings.{stay, after, behind, restep, fault_at, opened_group, opened_rule, fault_after, begin, one_more, kept}
 use Rattle.sm_syntax.proofs.Predictions as predict
 use Rattle.std.proofs.Common.{subst}
 use Rattle.sm_syntax.specs.declared.terminal.Terminal.{Terminal}
@@ -11,7 +11,7 @@ use Rattle.sm_syntax.specs.Grammars.{predict as chosen_side}
 use Rattle.sm_syntax.specs.Parsing.{becomes, stands_at}
 use Rattle.sm_syntax.specs.Expressions as plain
 use Rattle.sm_syntax.specs.Expressions.{expression_of, binding_of, factor_of, term_of, addend_of, test_of, addends_of, operands_of, expressions_of, comparisons_of}
-use Rattle.sm_syntax.specs.TreeSteps.{expression_then, addends_then, comparisons_then, product_then, operand_then, operands_then, indices_then, binding_then, tests_then, comparison_then, minus_then}
+use Rattle.sm_syntax.specs.TreeSteps.{expression_then, addends_then, comparisons_then, product_then, operand_then, operands_then, indices_then, binding_then, tests_then, comparison_then, minus_then, relation_then, more_exprs_then}
 use Rattle.sm_syntax.proofs.Readings.{map_more}
 use Rattle.sm_syntax.proofs.Lists.{addend_step, factor_step, expression_step, test_step, addends_each, operands_each, expressions_each, tests_each}
 use Rattle.sm_syntax.proofs.read_expression.+expression.Goals as goal
@@ -22,28 +22,41 @@ read_test-returns-in_err-left t c =
     let p = err_from_is_err_and c.from_residual.result c.from_residual.ensures.1 in
     rw (p.1, p.2) (fault_at c.read_expr.new.reader c.in_err-left.field-0.0 (g.expr ∷ []) (g.relation ∷ g.expr ∷ []) l0 c.in_err-left.ensures)
 
-pub read_test-returns-in_err-relation : goal.read_test-returns-in_err-relation
-read_test-returns-in_err-relation t c =
+pub read_test-returns-in_err-parts : goal.read_test-returns-in_err-parts
+read_test-returns-in_err-parts t c =
     let l0 = opened_rule c.args.reader.now 7 (g.expr ∷ g.relation ∷ g.expr ∷ []) c.place-place.result refl c.place-place.ensures (predict.test_any (next c.args.reader.now)) in
     let l1 = after l0 (behind (g.relation ∷ g.expr ∷ []) c.in_ok-left.ensures) in
-    let p = err_from_is_err_and c.from_residual-in_err-relation.result c.from_residual-in_err-relation.ensures.1 in
-    rw (p.1, p.2) (fault_at c.read_relation.new.reader c.in_err-relation.field-0.0 (g.relation ∷ []) (g.expr ∷ []) l1 c.in_err-relation.ensures)
-
-pub read_test-returns-in_err-right : goal.read_test-returns-in_err-right
-read_test-returns-in_err-right t c =
-    let l0 = opened_rule c.args.reader.now 7 (g.expr ∷ g.relation ∷ g.expr ∷ []) c.place-place.result refl c.place-place.ensures (predict.test_any (next c.args.reader.now)) in
-    let l1 = after l0 (behind (g.relation ∷ g.expr ∷ []) c.in_ok-left.ensures) in
-    let l2 = after l1 (behind (g.expr ∷ []) c.in_ok-relation.ensures) in
-    let p = err_from_is_err_and c.from_residual-in_err-right.result c.from_residual-in_err-right.ensures.1 in
-    rw (p.1, p.2) (fault_at c.read_expr-2.new.reader c.in_err-right.field-0.0 (g.expr ∷ []) ([]) l2 c.in_err-right.ensures)
+    let p = err_from_is_err_and c.from_residual-in_err-parts.result c.from_residual-in_err-parts.ensures.1 in
+    rw (p.1, p.2) (fault_after c.read_comparison-comparison.new.reader c.in_err-parts.field-0.0 l1 (rw c.in_err-parts.ensures.err at c.read_comparison-comparison.ensures))
 
 pub read_test-returns : goal.read_test-returns
 read_test-returns t c =
     let l0 = opened_rule c.args.reader.now 7 (g.expr ∷ g.relation ∷ g.expr ∷ []) c.place-place.result refl c.place-place.ensures (predict.test_any (next c.args.reader.now)) in
     let l1 = after l0 (behind (g.relation ∷ g.expr ∷ []) c.in_ok-left.ensures) in
-    let l2 = after l1 (behind (g.expr ∷ []) c.in_ok-relation.ensures) in
-    let l3 = after l2 c.in_ok-right.ensures in
-    restep (comparison_then (test_of c.new.result)) (λ r. ap (λ x. comparison_then x r) (sym c.new.ensures)) l3
+    let q = c.in_ok-parts.ensures.ok in
+    let l2 = after l1 (rw q.0 at c.read_comparison-comparison.ensures) in
+    restep (comparison_then (test_of c.new.result))
+    (λ r. ap (λ x. becomes g.test (g.expr ∷ g.relation ∷ g.expr ∷ []) ∷ stands_at c.place-place.result ∷ expression_then (expression_of x) (relation_then c.in_ok-parts.parts.1.0 (expression_then (expression_of c.in_ok-parts.parts.1.1) r))) (sym q.1) ∙ ap (λ x. comparison_then x r) (sym c.new.ensures))
+    l2
+
+pub read_comparison-returns-in_err-relation : goal.read_comparison-returns-in_err-relation
+read_comparison-returns-in_err-relation t c =
+    let l0 = stay (g.relation ∷ g.expr ∷ []) c.args.reader.now in
+    let p = err_from_is_err_and c.from_residual.result c.from_residual.ensures.1 in
+    rw (p.1, p.2) (fault_at c.read_relation.new.reader c.in_err-relation.field-0.0 (g.relation ∷ []) (g.expr ∷ []) l0 c.in_err-relation.ensures)
+
+pub read_comparison-returns-in_err-right : goal.read_comparison-returns-in_err-right
+read_comparison-returns-in_err-right t c =
+    let l0 = stay (g.relation ∷ g.expr ∷ []) c.args.reader.now in
+    let l1 = after l0 (behind (g.expr ∷ []) c.in_ok-relation.ensures) in
+    let p = err_from_is_err_and c.from_residual-in_err-right.result c.from_residual-in_err-right.ensures.1 in
+    rw (p.1, p.2) (fault_at c.read_expr.new.reader c.in_err-right.field-0.0 (g.expr ∷ []) ([]) l1 c.in_err-right.ensures)
+
+pub read_comparison-returns : goal.read_comparison-returns
+read_comparison-returns t c =
+    let l0 = stay (g.relation ∷ g.expr ∷ []) c.args.reader.now in
+    let l1 = after l0 (behind (g.expr ∷ []) c.in_ok-relation.ensures) in
+    after l1 c.in_ok-right.ensures
 
 pub read_binders-returns-in_err-parts : goal.read_binders-returns-in_err-parts
 read_binders-returns-in_err-parts t c =
@@ -190,21 +203,24 @@ read_expr-returns-in_err-first t c =
     let p = err_from_is_err_and c.from_residual.result c.from_residual.ensures.1 in
     rw (p.1, p.2) (fault_at c.read_term.new.reader c.in_err-first.field-0.0 (g.term ∷ []) (g.more_terms ∷ []) l1 c.in_err-first.ensures)
 
-pub read_expr-returns-in_err-more : goal.read_expr-returns-in_err-more
-read_expr-returns-in_err-more t c =
+pub read_expr-returns-in_err-parts : goal.read_expr-returns-in_err-parts
+read_expr-returns-in_err-parts t c =
     let l0 = opened_rule c.args.reader.now 8 (g.minus ∷ g.term ∷ g.more_terms ∷ []) c.place-place.result refl c.place-place.ensures (predict.expr_any (next c.args.reader.now)) in
     let l1 = after l0 (behind (g.term ∷ g.more_terms ∷ []) c.read_minus-is_negated.ensures) in
     let l2 = after l1 (behind (g.more_terms ∷ []) c.in_ok-first.ensures) in
-    let p = err_from_is_err_and c.from_residual-in_err-more.result c.from_residual-in_err-more.ensures.1 in
-    rw (p.1, p.2) (fault_at c.read_more_terms.new.reader c.in_err-more.field-0.0 (g.more_terms ∷ []) ([]) l2 c.in_err-more.ensures)
+    let p = err_from_is_err_and c.from_residual-in_err-parts.result c.from_residual-in_err-parts.ensures.1 in
+    rw (p.1, p.2) (fault_after c.read_more_terms-more.new.reader c.in_err-parts.field-0.0 l2 (rw c.in_err-parts.ensures.err at c.read_more_terms-more.ensures))
 
 pub read_expr-returns : goal.read_expr-returns
 read_expr-returns t c =
     let l0 = opened_rule c.args.reader.now 8 (g.minus ∷ g.term ∷ g.more_terms ∷ []) c.place-place.result refl c.place-place.ensures (predict.expr_any (next c.args.reader.now)) in
     let l1 = after l0 (behind (g.term ∷ g.more_terms ∷ []) c.read_minus-is_negated.ensures) in
     let l2 = after l1 (behind (g.more_terms ∷ []) c.in_ok-first.ensures) in
-    let l3 = after l2 c.in_ok-more.ensures in
-    restep (expression_then (expression_of c.new.result)) (λ r. ap (λ x. expression_then x r) (sym c.new.ensures)) l3
+    let q = c.in_ok-parts.ensures.ok in
+    let l3 = after l2 (rw q.0 at c.read_more_terms-more.ensures) in
+    restep (expression_then (expression_of c.new.result))
+    (λ r. ap (λ x. becomes g.expr (g.minus ∷ g.term ∷ g.more_terms ∷ []) ∷ stands_at c.place-place.result ∷ minus_then c.read_minus-is_negated.result (product_then (term_of x) (addends_then (addends_of (map addend_of c.in_ok-parts.parts.1)) r))) (sym q.1) ∙ ap (λ x. expression_then x r) (sym c.new.ensures))
+    l3
 
 pub read_more_terms-terms-init : goal.read_more_terms-terms-init
 read_more_terms-terms-init t c = begin addend_step (map addend_of c.new-terms.result) (ap (map addend_of) c.new-terms.ensures) c.args.reader.now (g.more_terms ∷ [])
@@ -244,19 +260,22 @@ read_term-returns-in_err-first t c =
     let p = err_from_is_err_and c.from_residual.result c.from_residual.ensures.1 in
     rw (p.1, p.2) (fault_at c.read_factor.new.reader c.in_err-first.field-0.0 (g.factor ∷ []) (g.more_factors ∷ []) l0 c.in_err-first.ensures)
 
-pub read_term-returns-in_err-more : goal.read_term-returns-in_err-more
-read_term-returns-in_err-more t c =
+pub read_term-returns-in_err-parts : goal.read_term-returns-in_err-parts
+read_term-returns-in_err-parts t c =
     let l0 = opened_rule c.args.reader.now 9 (g.factor ∷ g.more_factors ∷ []) c.place-place.result refl c.place-place.ensures (predict.term_any (next c.args.reader.now)) in
     let l1 = after l0 (behind (g.more_factors ∷ []) c.in_ok-first.ensures) in
-    let p = err_from_is_err_and c.from_residual-in_err-more.result c.from_residual-in_err-more.ensures.1 in
-    rw (p.1, p.2) (fault_at c.read_more_factors.new.reader c.in_err-more.field-0.0 (g.more_factors ∷ []) ([]) l1 c.in_err-more.ensures)
+    let p = err_from_is_err_and c.from_residual-in_err-parts.result c.from_residual-in_err-parts.ensures.1 in
+    rw (p.1, p.2) (fault_after c.read_more_factors-more.new.reader c.in_err-parts.field-0.0 l1 (rw c.in_err-parts.ensures.err at c.read_more_factors-more.ensures))
 
 pub read_term-returns : goal.read_term-returns
 read_term-returns t c =
     let l0 = opened_rule c.args.reader.now 9 (g.factor ∷ g.more_factors ∷ []) c.place-place.result refl c.place-place.ensures (predict.term_any (next c.args.reader.now)) in
     let l1 = after l0 (behind (g.more_factors ∷ []) c.in_ok-first.ensures) in
-    let l2 = after l1 c.in_ok-more.ensures in
-    restep (product_then (term_of c.new.result)) (λ r. ap (λ x. product_then x r) (sym c.new.ensures)) l2
+    let q = c.in_ok-parts.ensures.ok in
+    let l2 = after l1 (rw q.0 at c.read_more_factors-more.ensures) in
+    restep (product_then (term_of c.new.result))
+    (λ r. ap (λ x. becomes g.term (g.factor ∷ g.more_factors ∷ []) ∷ stands_at c.place-place.result ∷ operand_then (factor_of x) (operands_then (operands_of (map factor_of c.in_ok-parts.parts.1)) r)) (sym q.1) ∙ ap (λ x. product_then x r) (sym c.new.ensures))
+    l2
 
 pub read_more_factors-factors-init : goal.read_more_factors-factors-init
 read_more_factors-factors-init t c = begin factor_step (map factor_of c.new-factors.result) (ap (map factor_of) c.new-factors.ensures) c.args.reader.now (g.more_factors ∷ [])
@@ -293,46 +312,62 @@ read_factor-read_numeral-requires t c = predict.factor_else c.args.reader.now c.
 pub read_indices-returns-then-not-is : goal.read_indices-returns-then-not-is
 read_indices-returns-then-not-is t c = restep (indices_then (expressions_of (map expression_of c.new.result))) (λ r. ap (λ xs. indices_then (expressions_of (map expression_of xs)) r) (sym c.new.ensures)) (opened_group c.args.reader.now 39 [] refl (predict.indices_none c.args.reader.now (sym c.is.ensures ∙ c.if-not-is.true)))
 
-pub read_indices-returns-in_err-open : goal.read_indices-returns-in_err-open
-read_indices-returns-in_err-open t c =
+pub read_indices-returns-in_err-opened : goal.read_indices-returns-in_err-opened
+read_indices-returns-in_err-opened t c =
     let l0 = opened_group c.args.reader.now 39 (g.token_open_square ∷ g.expr ∷ g.more_exprs ∷ g.token_close_square ∷ []) refl (predict.indices_some c.args.reader.now (sym c.is.ensures ∙ c.if-not-is.false)) in
     let p = err_from_is_err_and c.from_residual.result c.from_residual.ensures.1 in
-    rw (p.1, p.2) (fault_at c.open.new.self c.in_err-open.field-0.0 (g.token_open_square ∷ []) (g.expr ∷ g.more_exprs ∷ g.token_close_square ∷ []) l0 c.in_err-open.ensures.read)
+    rw (p.1, p.2) (fault_at c.read_opened_indices.new.reader c.in_err-opened.field-0.0 (g.token_open_square ∷ g.expr ∷ g.more_exprs ∷ []) (g.token_close_square ∷ []) l0 c.in_err-opened.ensures)
 
-pub read_indices-returns-in_err-first : goal.read_indices-returns-in_err-first
-read_indices-returns-in_err-first t c =
+pub read_indices-returns-in_err-parts : goal.read_indices-returns-in_err-parts
+read_indices-returns-in_err-parts t c =
     let l0 = opened_group c.args.reader.now 39 (g.token_open_square ∷ g.expr ∷ g.more_exprs ∷ g.token_close_square ∷ []) refl (predict.indices_some c.args.reader.now (sym c.is.ensures ∙ c.if-not-is.false)) in
-    let l1 = after l0 (behind (g.expr ∷ g.more_exprs ∷ g.token_close_square ∷ []) c.in_ok-open.ensures.read) in
-    let p = err_from_is_err_and c.from_residual-in_err-first.result c.from_residual-in_err-first.ensures.1 in
-    rw (p.1, p.2) (fault_at c.read_expr.new.reader c.in_err-first.field-0.0 (g.expr ∷ []) (g.more_exprs ∷ g.token_close_square ∷ []) l1 c.in_err-first.ensures)
-
-pub read_indices-returns-in_err-more : goal.read_indices-returns-in_err-more
-read_indices-returns-in_err-more t c =
-    let l0 = opened_group c.args.reader.now 39 (g.token_open_square ∷ g.expr ∷ g.more_exprs ∷ g.token_close_square ∷ []) refl (predict.indices_some c.args.reader.now (sym c.is.ensures ∙ c.if-not-is.false)) in
-    let l1 = after l0 (behind (g.expr ∷ g.more_exprs ∷ g.token_close_square ∷ []) c.in_ok-open.ensures.read) in
-    let l2 = after l1 (behind (g.more_exprs ∷ g.token_close_square ∷ []) c.in_ok-first.ensures) in
-    let p = err_from_is_err_and c.from_residual-in_err-more.result c.from_residual-in_err-more.ensures.1 in
-    rw (p.1, p.2) (fault_at c.read_more_exprs.new.reader c.in_err-more.field-0.0 (g.more_exprs ∷ []) (g.token_close_square ∷ []) l2 c.in_err-more.ensures)
-
-pub read_indices-returns-in_err-close : goal.read_indices-returns-in_err-close
-read_indices-returns-in_err-close t c =
-    let l0 = opened_group c.args.reader.now 39 (g.token_open_square ∷ g.expr ∷ g.more_exprs ∷ g.token_close_square ∷ []) refl (predict.indices_some c.args.reader.now (sym c.is.ensures ∙ c.if-not-is.false)) in
-    let l1 = after l0 (behind (g.expr ∷ g.more_exprs ∷ g.token_close_square ∷ []) c.in_ok-open.ensures.read) in
-    let l2 = after l1 (behind (g.more_exprs ∷ g.token_close_square ∷ []) c.in_ok-first.ensures) in
-    let l3 = after l2 (behind (g.token_close_square ∷ []) c.in_ok-more.ensures) in
-    let p = err_from_is_err_and c.from_residual-in_err-close.result c.from_residual-in_err-close.ensures.1 in
-    rw (p.1, p.2) (fault_at c.close.new.self c.in_err-close.field-0.0 (g.token_close_square ∷ []) ([]) l3 c.in_err-close.ensures.read)
+    let l1 = after l0 (behind (g.token_close_square ∷ []) c.in_ok-opened.ensures) in
+    let p = err_from_is_err_and c.from_residual-in_err-parts.result c.from_residual-in_err-parts.ensures.1 in
+    rw (p.1, p.2) (fault_after c.close-closed.new.self c.in_err-parts.field-0.0 l1 (rw c.in_err-parts.ensures.err at c.close-closed.ensures.read))
 
 pub read_indices-returns : goal.read_indices-returns
 read_indices-returns t c =
     let l0 = opened_group c.args.reader.now 39 (g.token_open_square ∷ g.expr ∷ g.more_exprs ∷ g.token_close_square ∷ []) refl (predict.indices_some c.args.reader.now (sym c.is.ensures ∙ c.if-not-is.false)) in
-    let l1 = after l0 (behind (g.expr ∷ g.more_exprs ∷ g.token_close_square ∷ []) c.in_ok-open.ensures.read) in
-    let l2 = after l1 (behind (g.more_exprs ∷ g.token_close_square ∷ []) c.in_ok-first.ensures) in
-    let l3 = after l2 (behind (g.token_close_square ∷ []) c.in_ok-more.ensures) in
-    let l4 = after l3 c.in_ok-close.ensures.read in
+    let l1 = after l0 (behind (g.token_close_square ∷ []) c.in_ok-opened.ensures) in
+    let q = c.in_ok-parts.ensures.ok in
+    let l2 = after l1 (rw q.0 at c.close-closed.ensures.read) in
     restep (indices_then (expressions_of (map expression_of c.in_ok-indices.indices)))
-    (λ r. ap (λ x. becomes g.indices (g.token_open_square ∷ g.expr ∷ g.more_exprs ∷ g.token_close_square ∷ []) ∷ expression_then (expression_of c.in_ok-first.first) x) (expressions_each (map expression_of c.in_ok-more.more) r) ∙ ap (λ xs. indices_then (expressions_of (map expression_of xs)) r) (sym c.in_ok-indices.ensures))
-    l4
+    (λ r. ap (λ x. becomes g.indices (g.token_open_square ∷ g.expr ∷ g.more_exprs ∷ g.token_close_square ∷ []) ∷ expression_then (expression_of x.0) (more_exprs_then (map expression_of x.1) r)) (sym q.1)
+    ∙ ap (λ x. becomes g.indices (g.token_open_square ∷ g.expr ∷ g.more_exprs ∷ g.token_close_square ∷ []) ∷ expression_then (expression_of c.in_ok-parts.parts.0.0) x) (expressions_each (map expression_of c.in_ok-parts.parts.0.1) r)
+    ∙ ap (λ xs. indices_then (expressions_of (map expression_of xs)) r) (sym c.in_ok-indices.ensures))
+    l2
+
+pub read_opened_indices-returns-in_err-open : goal.read_opened_indices-returns-in_err-open
+read_opened_indices-returns-in_err-open t c =
+    let l0 = stay (g.token_open_square ∷ g.expr ∷ g.more_exprs ∷ []) c.args.reader.now in
+    let p = err_from_is_err_and c.from_residual.result c.from_residual.ensures.1 in
+    rw (p.1, p.2) (fault_at c.open.new.self c.in_err-open.field-0.0 (g.token_open_square ∷ []) (g.expr ∷ g.more_exprs ∷ []) l0 c.in_err-open.ensures.read)
+
+pub read_opened_indices-returns-in_err-first : goal.read_opened_indices-returns-in_err-first
+read_opened_indices-returns-in_err-first t c =
+    let l0 = stay (g.token_open_square ∷ g.expr ∷ g.more_exprs ∷ []) c.args.reader.now in
+    let l1 = after l0 (behind (g.expr ∷ g.more_exprs ∷ []) c.in_ok-open.ensures.read) in
+    let p = err_from_is_err_and c.from_residual-in_err-first.result c.from_residual-in_err-first.ensures.1 in
+    rw (p.1, p.2) (fault_at c.read_expr.new.reader c.in_err-first.field-0.0 (g.expr ∷ []) (g.more_exprs ∷ []) l1 c.in_err-first.ensures)
+
+pub read_opened_indices-returns-in_err-parts : goal.read_opened_indices-returns-in_err-parts
+read_opened_indices-returns-in_err-parts t c =
+    let l0 = stay (g.token_open_square ∷ g.expr ∷ g.more_exprs ∷ []) c.args.reader.now in
+    let l1 = after l0 (behind (g.expr ∷ g.more_exprs ∷ []) c.in_ok-open.ensures.read) in
+    let l2 = after l1 (behind (g.more_exprs ∷ []) c.in_ok-first.ensures) in
+    let p = err_from_is_err_and c.from_residual-in_err-parts.result c.from_residual-in_err-parts.ensures.1 in
+    rw (p.1, p.2) (fault_after c.read_more_exprs-more.new.reader c.in_err-parts.field-0.0 l2 (rw c.in_err-parts.ensures.err at c.read_more_exprs-more.ensures))
+
+pub read_opened_indices-returns : goal.read_opened_indices-returns
+read_opened_indices-returns t c =
+    let l0 = stay (g.token_open_square ∷ g.expr ∷ g.more_exprs ∷ []) c.args.reader.now in
+    let l1 = after l0 (behind (g.expr ∷ g.more_exprs ∷ []) c.in_ok-open.ensures.read) in
+    let l2 = after l1 (behind (g.more_exprs ∷ []) c.in_ok-first.ensures) in
+    let q = c.in_ok-parts.ensures.ok in
+    let l3 = after l2 (rw q.0 at c.read_more_exprs-more.ensures) in
+    restep (λ r. expression_then (expression_of c.in_ok-parts.parts.0) (more_exprs_then (map expression_of c.in_ok-parts.parts.1) r))
+    (λ r. ap (λ x. expression_then (expression_of x) (more_exprs_then (map expression_of c.in_ok-parts.parts.1) r)) (sym q.1))
+    l3
 
 pub read_more_exprs-exprs-init : goal.read_more_exprs-exprs-init
 read_more_exprs-exprs-init t c = begin expression_step (map expression_of c.new-exprs.result) (ap (map expression_of) c.new-exprs.ensures) c.args.reader.now (g.more_exprs ∷ [])
@@ -364,21 +399,24 @@ read_tests-returns-in_err-first t c =
     let p = err_from_is_err_and c.from_residual.result c.from_residual.ensures.1 in
     rw (p.1, p.2) (fault_at c.read_test.new.reader c.in_err-first.field-0.0 (g.test ∷ []) (g.more_tests ∷ []) l1 c.in_err-first.ensures)
 
-pub read_tests-returns-in_err-more : goal.read_tests-returns-in_err-more
-read_tests-returns-in_err-more t c =
+pub read_tests-returns-in_err-parts : goal.read_tests-returns-in_err-parts
+read_tests-returns-in_err-parts t c =
     let l0 = opened_group c.args.reader.now 32 (g.token_if ∷ g.test ∷ g.more_tests ∷ []) refl (predict.tests_some c.args.reader.now (sym c.accept.ensures.next ∙ c.if-not-accept.false)) in
     let l1 = after l0 (behind (g.test ∷ g.more_tests ∷ []) (c.accept.ensures.lead c.if-not-accept.false)) in
     let l2 = after l1 (behind (g.more_tests ∷ []) c.in_ok-first.ensures) in
-    let p = err_from_is_err_and c.from_residual-in_err-more.result c.from_residual-in_err-more.ensures.1 in
-    rw (p.1, p.2) (fault_at c.read_more_tests.new.reader c.in_err-more.field-0.0 (g.more_tests ∷ []) ([]) l2 c.in_err-more.ensures)
+    let p = err_from_is_err_and c.from_residual-in_err-parts.result c.from_residual-in_err-parts.ensures.1 in
+    rw (p.1, p.2) (fault_after c.read_more_tests-more.new.reader c.in_err-parts.field-0.0 l2 (rw c.in_err-parts.ensures.err at c.read_more_tests-more.ensures))
 
 pub read_tests-returns : goal.read_tests-returns
 read_tests-returns t c =
     let l0 = opened_group c.args.reader.now 32 (g.token_if ∷ g.test ∷ g.more_tests ∷ []) refl (predict.tests_some c.args.reader.now (sym c.accept.ensures.next ∙ c.if-not-accept.false)) in
     let l1 = after l0 (behind (g.test ∷ g.more_tests ∷ []) (c.accept.ensures.lead c.if-not-accept.false)) in
     let l2 = after l1 (behind (g.more_tests ∷ []) c.in_ok-first.ensures) in
-    let l3 = after l2 c.in_ok-more.ensures in
-    restep (tests_then (comparisons_of (map test_of c.in_ok-tests.tests))) (λ r. ap (λ xs. tests_then (comparisons_of (map test_of xs)) r) (sym c.in_ok-tests.ensures)) l3
+    let q = c.in_ok-parts.ensures.ok in
+    let l3 = after l2 (rw q.0 at c.read_more_tests-more.ensures) in
+    restep (tests_then (comparisons_of (map test_of c.in_ok-tests.tests)))
+    (λ r. ap (λ x. becomes g.tests (g.token_if ∷ g.test ∷ g.more_tests ∷ []) ∷ comparison_then (test_of x) (comparisons_then (comparisons_of (map test_of c.in_ok-parts.parts.1)) r)) (sym q.1) ∙ ap (λ xs. tests_then (comparisons_of (map test_of xs)) r) (sym c.in_ok-tests.ensures))
+    l3
 
 pub read_more_tests-tests-init : goal.read_more_tests-tests-init
 read_more_tests-tests-init t c = begin test_step (map test_of c.new-tests.result) (ap (map test_of) c.new-tests.ensures) c.args.reader.now (g.more_tests ∷ [])

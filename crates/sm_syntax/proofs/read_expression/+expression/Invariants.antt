@@ -26,6 +26,9 @@ decreases-read_named l = 8 * length l.reader.now.later + 3
 abbrev pub decreases-read_indices : goal.decreases-read_indices
 decreases-read_indices l = 8 * length l.reader.now.later + 1
 
+abbrev pub decreases-read_opened_indices : goal.decreases-read_opened_indices
+decreases-read_opened_indices l = 8 * length l.reader.now.later
+
 abbrev pub decreases-read_more_exprs : goal.decreases-read_more_exprs
 decreases-read_more_exprs l = 8 * length l.reader.now.later
 
@@ -42,16 +45,19 @@ abbrev pub decreases-read_scope : goal.decreases-read_scope
 decreases-read_scope l = 8 * length l.reader.now.later + 1
 
 abbrev pub decreases-read_binders : goal.decreases-read_binders
-decreases-read_binders l = 8 * length l.reader.now.later + 2
+decreases-read_binders l = 8 * length l.reader.now.later + 3
 
 abbrev pub decreases-read_tests : goal.decreases-read_tests
-decreases-read_tests l = 8 * length l.reader.now.later + 1
+decreases-read_tests l = 8 * length l.reader.now.later + 2
 
 abbrev pub decreases-read_more_tests : goal.decreases-read_more_tests
-decreases-read_more_tests l = 8 * length l.reader.now.later
+decreases-read_more_tests l = 8 * length l.reader.now.later + 1
 
 abbrev pub decreases-read_test : goal.decreases-read_test
-decreases-read_test l = 8 * length l.reader.now.later + 7
+decreases-read_test l = 8 * length l.reader.now.later + 8
+
+abbrev pub decreases-read_comparison : goal.decreases-read_comparison
+decreases-read_comparison l = 8 * length l.reader.now.later + 7
 
 abbrev pub invariant-read_more_terms-terms : goal.invariant-read_more_terms-terms
 invariant-read_more_terms-terms l = Leads l.initial.reader (g.more_terms ∷ []) (each addend_step (map addend_of l.terms)) l.reader (g.more_terms ∷ [])

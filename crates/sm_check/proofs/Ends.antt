@@ -37,7 +37,7 @@ use Rattle.sm_step.specs.PartText.{number_text, test_text, literal_text, fractio
 use Rattle.sm_step.specs.RowText.{column_text, row_text, term_text, terms_text}
 use Rattle.sm_step.specs.RuleText.{task_text, rule_text, outcome_text}
 use Rattle.sm_step.specs.Text.{listed_text, pattern_text, program_text, operation_text, best_text, verdict_text, body_text, text_of}
-use Rattle.sm_step.specs.Grammar.{IsNumber, IsWhole, IsDenominator, IsLiteral, IsList, RisesFrom, IsColumn, FollowInOrder, AreColumns, IsRow, IsTerm, IsTask, IsRule, IsOutcome, IsOneOutcome, IsListed, IsPattern, IsProgram, IsVerdict, IsInRange, IsLine}
+use Rattle.sm_step.specs.Grammar.{IsNumber, IsWideNumber, IsDenominator, IsLiteral, IsList, RisesFrom, IsColumn, FollowInOrder, AreColumns, IsRow, IsTerm, IsTask, IsRule, IsOutcome, IsOneOutcome, IsListed, IsPattern, IsProgram, IsVerdict, IsInRange, IsLine}
 use Rattle.sm_step.proofs.Lines.{line_in_range}
 use Rattle.sm_check.specs.Replays.{cut}
 use Rattle.sm_check.specs.Feeds.{HasNoEnd, IsPiece}
@@ -84,7 +84,7 @@ digits_plain (d ∷ ds) all =
 decimal_plain : (n : ℕ) → n < 10 ^ 64 → IsPlain (decimal n)
 decimal_plain n small = digits_plain (decimal n) (decimal_is_IsNumeral_wide n small).0.1
 
-whole_plain : (z : ℤ) → IsWhole z → IsPlain (whole_text z)
+whole_plain : (z : ℤ) → IsWideNumber z → IsPlain (whole_text z)
 whole_plain (pos n) fits = decimal_plain n (omega (arith, fits))
 whole_plain (negsuc n) fits = plain_more 45 (decimal (suc n)) (λ e. omega (arith, e)) (decimal_plain (suc n) (omega (arith, fits)))
 
@@ -156,13 +156,13 @@ rising_plain least (n ∷ ns) rises = All-cons (λ n. IsPlain (number_text n)) n
 list_plain : (ns : List ℕ) → IsList ns → IsPlain (list_text ns)
 list_plain ns is = or_none_plain 44 number_text ns (λ e. omega (arith, e)) (rising_plain 0 ns is)
 
-wholes_plain : (zs : List ℤ) → All IsWhole zs → All (λ z. IsPlain (whole_text z)) zs
-wholes_plain zs each = every IsWhole (λ z. IsPlain (whole_text z)) whole_plain zs each
+wholes_plain : (zs : List ℤ) → All IsWideNumber zs → All (λ z. IsPlain (whole_text z)) zs
+wholes_plain zs each = every IsWideNumber (λ z. IsPlain (whole_text z)) whole_plain zs each
 
-spaced_plain : (zs : List ℤ) → All IsWhole zs → IsPlain (spaced zs)
+spaced_plain : (zs : List ℤ) → All IsWideNumber zs → IsPlain (spaced zs)
 spaced_plain zs each = each_plain 32 whole_text zs (λ e. omega (arith, e)) (wholes_plain zs each)
 
-prices_plain : (zs : List ℤ) → All IsWhole zs → IsPlain (prices_text zs)
+prices_plain : (zs : List ℤ) → All IsWideNumber zs → IsPlain (prices_text zs)
 prices_plain zs each = or_none_plain 44 whole_text zs (λ e. omega (arith, e)) (wholes_plain zs each)
 
 value_plain : (fs : List Frac) → IsPlain (value_text fs)

@@ -24,7 +24,7 @@ use Rattle.sm_step.specs.declared.verdict.Verdict.TheVariants as verdict
 use Rattle.sm_step.specs.Verdicts.{parts_of}
 use Rattle.sm_step.specs.PartText.{test_text, literal_text, fraction_text, each_after, spaced, value_text}
 use Rattle.sm_step.specs.Text.{body_text, text_of}
-use Rattle.sm_step.specs.Grammar.{IsWhole, IsLiteral, IsInRange, IsShort, IsLine}
+use Rattle.sm_step.specs.Grammar.{IsWideNumber, IsLiteral, IsInRange, IsShort, IsLine}
 use Rattle.sm_rules.specs.Nodes.{NodeView, TakesChild}
 use Rattle.sm_rules.specs.Trees.{node_at}
 use Rattle.sm_rules.specs.States.{State}
@@ -40,11 +40,11 @@ use Rattle.sm_search.proofs.Fits.{child_near}
 both : (a b : ℕ) (xs ys : List ℕ) → length xs ≤ a → length ys ≤ b → length (xs ++ ys) ≤ a + b
 both a b xs ys one two = let sum = length-append xs ys in omega (arith, sum, one, two)
 
-whole_short : (z : ℤ) → IsWhole z → length (whole_text z) ≤ 40
+whole_short : (z : ℤ) → IsWideNumber z → length (whole_text z) ≤ 40
 whole_short (pos n) fits = let short = length-decimal-le_wide 39 n (omega arith) (omega (arith, fits)) (omega (arith, fits)) in omega (arith, short)
 whole_short (negsuc n) fits = let short = length-decimal-le_wide 39 (suc n) (omega arith) (omega (arith, fits)) (omega (arith, fits)) in omega (arith, short)
 
-natural_whole : (n : ℕ) → n < 2 ^ 64 → IsWhole (pos n)
+natural_whole : (n : ℕ) → n < 2 ^ 64 → IsWideNumber (pos n)
 natural_whole n small = omega (arith, small)
 
 test_short : (t : Test) → length (test_text t) ≤ 2
@@ -53,7 +53,7 @@ test_short AtLeast = omega arith
 test_short Equal = omega arith
 test_short Unequal = omega arith
 
-small_whole : (z : ℤ) → unsigned_abs z < 2 ^ 127 → IsWhole z
+small_whole : (z : ℤ) → unsigned_abs z < 2 ^ 127 → IsWideNumber z
 small_whole (pos n) small = omega (arith, small)
 small_whole (negsuc n) small = omega (arith, small)
 
@@ -64,11 +64,11 @@ literal_short l (var, bound) =
     (both 40 2 (whole_text (pos l.var)) (test_text l.test) (whole_short (pos l.var) (natural_whole l.var (omega (arith, var)))) (test_short l.test))
     (whole_short l.bound (small_whole l.bound (omega (arith, bound)))))
 
-spaced_short : (zs : List ℤ) → All IsWhole zs → length (spaced zs) ≤ 41 * length zs
+spaced_short : (zs : List ℤ) → All IsWideNumber zs → length (spaced zs) ≤ 41 * length zs
 spaced_short [] each = omega arith
 spaced_short (z ∷ zs) each =
-    let more = spaced_short zs (All-tail IsWhole z zs each) in
-    let whole = whole_short z (All-head IsWhole z zs each) in
+    let more = spaced_short zs (All-tail IsWideNumber z zs each) in
+    let whole = whole_short z (All-head IsWideNumber z zs each) in
     let sum = length-append (32 ∷ whole_text z) (spaced zs) in
     omega (arith, sum, whole, more)
 
@@ -149,9 +149,9 @@ node_line m p id parent l fit counted ok limit =
     let two : parent < 2 ^ 40 = omega (arith, ok.due.order.next, counted.nodes, long, sum, limit, below, is) in
     ((one, two, near), short_of (line.Node id parent l) (let short = node_short id parent l one two near in omega (arith, short)))
 
-small_values : (vs : List ℤ) → All (λ n. unsigned_abs n ≤ 1 * 2 ^ 31) vs → All IsWhole vs
-small_values [] each = All-nil IsWhole
-small_values (v ∷ vs) each = All-cons IsWhole v vs (small_whole v (omega (arith, All-head (λ n. unsigned_abs n ≤ 1 * 2 ^ 31) v vs each))) (small_values vs (All-tail (λ n. unsigned_abs n ≤ 1 * 2 ^ 31) v vs each))
+small_values : (vs : List ℤ) → All (λ n. unsigned_abs n ≤ 1 * 2 ^ 31) vs → All IsWideNumber vs
+small_values [] each = All-nil IsWideNumber
+small_values (v ∷ vs) each = All-cons IsWideNumber v vs (small_whole v (omega (arith, All-head (λ n. unsigned_abs n ≤ 1 * 2 ^ 31) v vs each))) (small_values vs (All-tail (λ n. unsigned_abs n ≤ 1 * 2 ^ 31) v vs each))
 
 sol_line : (values : List ℤ) → length values ≤ 4096 → All (λ n. unsigned_abs n ≤ 1 * 2 ^ 31) values → IsLine (line.Sol (pos 1) values)
 unfolding IsLine

@@ -16,7 +16,7 @@ use Rattle.sm_kinds.specs.declared.literal.Literal.{Literal}
 use Rattle.sm_kinds.specs.declared.literal.Test.{Test}
 use Rattle.sm_kinds.specs.declared.literal.Test.TheVariants.{AtMost, AtLeast, Equal, Unequal}
 use Rattle.sm_step.specs.PartText.{number_text, each_after, joined, joined_or_none, list_text, prices_text, value_text, test_text, literal_text, fraction_text, spaced}
-use Rattle.sm_step.specs.Grammar.{IsLiteral, IsWhole, IsNumber, IsSome, RisesFrom, IsList, IsDenominator, AreValues}
+use Rattle.sm_step.specs.Grammar.{IsLiteral, IsWideNumber, IsNumber, IsSome, RisesFrom, IsList, IsDenominator, AreValues}
 use Rattle.sm_step.specs.Reading.{Reads, rest_behind, each_up_to, each_in, joined_in, whole_in, natural_in, narrow_in, fits_narrow, number_in, list_in, prices_in, listed_in, begins_with_digit, is_digit, unless_digit, rest_behind_none, EndsNumber}
 use Rattle.sm_step.specs.Fractions.{fraction_of}
 use Rattle.sm_step.proofs.FracParts.{fraction_again}
@@ -127,7 +127,7 @@ joined_next mark part text InRange Ends (x ∷ xs) rest exact marks some all end
 
 -- ---- numbers and fractions as parts of lists
 
-pub whole_exact : IsExact whole_in whole_text IsWhole EndsNumber
+pub whole_exact : IsExact whole_in whole_text IsWideNumber EndsNumber
 whole_exact = record { next = λ z rest is ends. whole_next z rest is ends }
 
 -- neither a digit nor a `/` comes next
@@ -198,14 +198,14 @@ number_no_dash n rest small =
     let b = decimal_begins n small in
     ap (λ (t : List ℕ). rest_behind (codes "-") (t ++ rest)) b.is ∙ rw (digit_no_dash b.first b.digit) refl
 
-pub whole_no_none : (z : ℤ) (rest : List ℕ) → IsWhole z → rest_behind_none (whole_text z ++ rest) ≡ None
+pub whole_no_none : (z : ℤ) (rest : List ℕ) → IsWideNumber z → rest_behind_none (whole_text z ++ rest) ≡ None
 unfolding rest_behind_none
 whole_no_none (pos n) rest fits = rw (number_no_dash n rest (omega (arith, fits))) refl
 whole_no_none (negsuc n) rest fits =
     let b = decimal_begins (suc n) (omega (arith, fits)) in
     ap (λ (t : List ℕ). unless_digit (t ++ rest)) b.is ∙ rw b.digit refl
 
-whole_no_word : (z : ℤ) (rest : List ℕ) → IsWhole z → rest_behind (codes "none") (whole_text z ++ rest) ≡ None
+whole_no_word : (z : ℤ) (rest : List ℕ) → IsWideNumber z → rest_behind (codes "none") (whole_text z ++ rest) ≡ None
 whole_no_word (pos n) rest fits =
     let b = decimal_begins n (omega (arith, fits)) in
     ap (λ (t : List ℕ). rest_behind (codes "none") (t ++ rest)) b.is ∙ rw (digit_no_n b.first b.digit) refl
@@ -266,8 +266,8 @@ pub list_next : (ns : List ℕ) (rest : List ℕ) → IsList ns → EndsList res
 list_next ns rest is ends = listed_next 44 number_in number_text IsNumber EndsNumber ns rest number_exact comma_ends_number
     (λ n behind small. whole_no_none (pos n) behind (omega (arith, small))) (rising_numbers 0 ns is) ends.number ends.comma ends.number
 
-pub prices_next : (zs : List ℤ) (rest : List ℕ) → All IsWhole zs → EndsList rest → prices_in (prices_text zs ++ rest) ≡ Some (zs, rest)
-prices_next zs rest all ends = listed_next 44 whole_in whole_text IsWhole EndsNumber zs rest whole_exact comma_ends_number whole_no_none all ends.number ends.comma ends.number
+pub prices_next : (zs : List ℤ) (rest : List ℕ) → All IsWideNumber zs → EndsList rest → prices_in (prices_text zs ++ rest) ≡ Some (zs, rest)
+prices_next zs rest all ends = listed_next 44 whole_in whole_text IsWideNumber EndsNumber zs rest whole_exact comma_ends_number whole_no_none all ends.number ends.comma ends.number
 
 pub literal_exact : IsExact literal_in literal_text IsLiteral EndsNumber
 literal_exact = record { next = literal_next }
@@ -284,7 +284,7 @@ pub values_next : (d : ℤ) (zs : List ℤ) (rest : List ℕ) → AreValues d zs
 unfolding values_in
 values_next d zs rest is ends none =
     ap values_in (append_assoc (whole_text d) (spaced zs) rest)
-    ∙ rw (narrow_next d (spaced zs ++ rest) (denominator_fits d is.0) (numbers_end zs rest ends), each_next 32 whole_in whole_text IsWhole EndsNumber zs rest whole_exact space_ends_number is.1 ends none) refl
+    ∙ rw (narrow_next d (spaced zs ++ rest) (denominator_fits d is.0) (numbers_end zs rest ends), each_next 32 whole_in whole_text IsWideNumber EndsNumber zs rest whole_exact space_ends_number is.1 ends none) refl
 
 pub comma_ends_fraction : IsMark 44 EndsFraction
 comma_ends_fraction = record { ends = λ rest. record { number = refl; slash = refl } }

@@ -15,7 +15,7 @@ use Rattle.sm_step.specs.declared.rule.Rule.TheVariants as rule
 use Rattle.sm_step.specs.PartText.{number_text, list_text, literal_text, fraction_text, joined}
 use Rattle.sm_step.specs.RowText.{column_text, row_text, term_text, terms_text}
 use Rattle.sm_step.specs.RuleText.{task_text, rule_text, outcome_text}
-use Rattle.sm_step.specs.Grammar.{IsNumber, IsWhole, IsList, IsSome, IsLiteral, IsColumn, IsRow, IsTerm, IsTask, IsRule, IsOutcome, IsOneOutcome}
+use Rattle.sm_step.specs.Grammar.{IsNumber, IsWideNumber, IsList, IsSome, IsLiteral, IsColumn, IsRow, IsTerm, IsTask, IsRule, IsOutcome, IsOneOutcome}
 use Rattle.sm_step.specs.Reading.{rest_behind, EndsNumber}
 use Rattle.sm_step.specs.PartReading.{literal_in}
 use Rattle.sm_step.specs.RowReading.{column_in, pair_in, number_and_whole_in, task_row_in, row_in, term_in, terms_in}
@@ -47,7 +47,7 @@ pair_next k n rest first second ends =
     ap pair_in (nest3 (number_text k) (codes ".") (number_text n) rest)
     ∙ rw (number_next k (codes "." ++ (number_text n ++ rest)) first refl, number_next n rest second ends) refl
 
-number_and_whole_next : (k : ℕ) (z : ℤ) (rest : List ℕ) → IsNumber k → IsWhole z → EndsNumber rest → number_and_whole_in (number_text k ++ codes "." ++ whole_text z ++ rest) ≡ Some ((k, z), rest)
+number_and_whole_next : (k : ℕ) (z : ℤ) (rest : List ℕ) → IsNumber k → IsWideNumber z → EndsNumber rest → number_and_whole_in (number_text k ++ codes "." ++ whole_text z ++ rest) ≡ Some ((k, z), rest)
 unfolding number_and_whole_in
 number_and_whole_next k z rest first second ends =
     ap number_and_whole_in (nest3 (number_text k) (codes ".") (whole_text z) rest)
@@ -120,7 +120,7 @@ order_next k task w v rest first second third fourth ends =
     ap order_in (nest7 (number_text k) (codes " ") (number_text task) (codes " ") (list_text w) (codes " ") (list_text v) rest)
     ∙ rw (two_numbers_next k task (codes " " ++ (list_text w ++ last)) first second refl, list_next w last third (record { number = refl; comma = refl }), list_next v rest fourth ends) refl
 
-time_rule_next : (k : ℕ) (moment : ℤ) (task : Option ℕ) (rest : List ℕ) → IsNumber k → IsWhole moment → IsTask task → EndsNumber rest
+time_rule_next : (k : ℕ) (moment : ℤ) (task : Option ℕ) (rest : List ℕ) → IsNumber k → IsWideNumber moment → IsTask task → EndsNumber rest
     → time_rule_in (number_text k ++ codes " " ++ whole_text moment ++ codes " " ++ task_text task ++ rest) ≡ Some (rule.Time k moment task, rest)
 unfolding time_rule_in
 time_rule_next k moment task rest first second third ends =

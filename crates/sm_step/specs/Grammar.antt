@@ -30,9 +30,9 @@ IsLongNumber n = n < 2 ^ 40
 abbrev pub IsNumber : ℕ → Type 0
 IsNumber n = n < 2 ^ 32
 
--- a whole number
-abbrev pub IsWhole : ℤ → Type 0
-IsWhole = FitsSigned w128
+-- a whole number of 128 bits, as the text has it
+abbrev pub IsWideNumber : ℤ → Type 0
+IsWideNumber = FitsSigned w128
 
 abbrev pub IsDenominator : ℤ → Type 0
 IsDenominator d = (pos 1 ≤ℤ d) × (d ≤ℤ pos (2 ^ 52))
@@ -59,11 +59,11 @@ pub record AreInLowestTerms (denominator : ℤ) (numerators : List ℤ) : Type 0
 
 -- numerators over a common denominator
 abbrev pub AreValues : ℤ → List ℤ → Type 0
-AreValues denominator numerators = IsDenominator denominator × All IsWhole numerators × AreInLowestTerms denominator numerators
+AreValues denominator numerators = IsDenominator denominator × All IsWideNumber numerators × AreInLowestTerms denominator numerators
 
 -- prices over a denominator, which need not be in lowest terms
 abbrev pub ArePrices : ℤ → List ℤ → Type 0
-ArePrices denominator prices = IsDenominator denominator × All IsWhole prices
+ArePrices denominator prices = IsDenominator denominator × All IsWideNumber prices
 
 abbrev pub IsColumn : Col → Type 0
 IsColumn (Var v) = IsNumber v
@@ -93,9 +93,9 @@ IsRow (row.Link v) = IsNumber v
 IsRow (row.Mean v) = IsNumber v
 IsRow (row.Clause k c) = IsNumber k × IsNumber c
 IsRow (row.When k half) = IsNumber k × IsNumber half
-IsRow (row.Value k v) = IsNumber k × IsWhole v
+IsRow (row.Value k v) = IsNumber k × IsWideNumber v
 IsRow (row.Table k) = IsNumber k
-IsRow (row.Time k moment) = IsNumber k × IsWhole moment
+IsRow (row.Time k moment) = IsNumber k × IsWideNumber moment
 IsRow (row.Par k tasks) = IsNumber k × IsList tasks
 IsRow (row.Cap k group) = IsNumber k × IsNumber group
 IsRow (row.Pack k) = IsNumber k
@@ -119,7 +119,7 @@ IsRule (rule.When k half) = IsNumber k × IsNumber half
 IsRule (rule.Hall k w) = IsNumber k × IsList w
 IsRule (rule.Elem k) = IsNumber k
 IsRule (rule.Isum k) = IsNumber k
-IsRule (rule.Time k moment task) = IsNumber k × IsWhole moment × IsTask task
+IsRule (rule.Time k moment task) = IsNumber k × IsWideNumber moment × IsTask task
 IsRule (rule.Energy k w) = IsNumber k × IsList w
 IsRule (rule.Load k w) = IsNumber k × IsList w
 IsRule (rule.After k task w v) = IsNumber k × IsNumber task × IsList w × IsList v
@@ -141,7 +141,7 @@ abbrev pub IsListed : Listed → Type 0
 IsListed p = IsNumber p.group × IsList p.items
 
 abbrev pub IsPattern : Pattern → Type 0
-IsPattern p = IsNumber p.group × IsList p.items × IsWhole p.weight
+IsPattern p = IsNumber p.group × IsList p.items × IsWideNumber p.weight
 
 abbrev pub IsProgram : NorangeOf → Type 0
 IsProgram Relax = Unit {0}

@@ -60,13 +60,13 @@ impl Part for u32 {
 impl Part for i128 {
     ghost use Rattle.sm_base.specs.Whole.{whole_text};
     ghost use Rattle.sm_step.specs.Reading.{whole_in};
-    ghost use Rattle.sm_step.specs.Grammar.{IsWhole};
+    ghost use Rattle.sm_step.specs.Grammar.{IsWideNumber};
 
     ghost text = { whole_text };
 
     ghost reading = { whole_in };
 
-    ghost fits = { IsWhole };
+    ghost fits = { IsWideNumber };
 
     fn push(&self, into: &mut Vec<u8>) -> Result<(), OutOfMemory> {
         push_whole(into, *self)

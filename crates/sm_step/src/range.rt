@@ -1,6 +1,6 @@
 //! Which lines are in the ranges of the grammar.
 ghost use Rattle.std.specs.Prelude.{◌≡◌, ◌↔◌, IsTrue, All};
-ghost use Rattle.sm_step.specs.Grammar.{IsSome, IsWhole, IsLiteral, IsDenominator, AreInLowestTerms, AreValues, ArePrices, IsTask, IsRule, IsOutcome, IsOneOutcome, IsTerm, IsPattern, IsInRange};
+ghost use Rattle.sm_step.specs.Grammar.{IsSome, IsWideNumber, IsLiteral, IsDenominator, AreInLowestTerms, AreValues, ArePrices, IsTask, IsRule, IsOutcome, IsOneOutcome, IsTerm, IsPattern, IsInRange};
 
 use crate::line::{Line, Outcome, Pattern};
 use crate::lists::all_in_range;
@@ -26,7 +26,7 @@ fn is_denominator(denominator: i64) -> bool
 /// Whether no number but 1 divides the denominator and each numerator.
 fn are_in_lowest_terms(denominator: i64, numerators: &[i128]) -> bool
     ensures lowest { IsTrue result ↔ AreInLowestTerms denominator numerators.now }
-    ensures whole { All IsWhole numerators.now }
+    ensures whole { All IsWideNumber numerators.now }
 {
     let mut divisor = u128::from(denominator.unsigned_abs());
     for numerator in numerators {

@@ -1,8 +1,8 @@
 //! Reading items, goals and models.
-ghost use Rattle.std.specs.Prelude.{◌≡◌, ◌<◌, ◌∷◌, [], OnOk, length, map, option_map};
+ghost use Rattle.std.specs.Prelude.{◌≡◌, ◌<◌, ◌∷◌, [], IfErr, OnOk, length, map, option_map};
 ghost use Rattle.sm_syntax.specs.Grammar as g;
 ghost use Rattle.sm_syntax.specs.Grammars.{number_of};
-ghost use Rattle.sm_syntax.specs.Reading.{Standing, Leads, ReadsWhole, Chooses, ReadsAll};
+ghost use Rattle.sm_syntax.specs.Reading.{Standing, next, Leads, Fault, ReadsWhole, Chooses, ReadsAll};
 ghost use Rattle.sm_syntax.specs.Expressions.{binding_of};
 ghost use Rattle.sm_syntax.specs.Trees.{values_of, kind_of, aim_of, goal_of, item_of, tree_of};
 ghost use Rattle.sm_syntax.specs.TreeSteps.{list_then, name_then, values_then, kind_then, family_then, forall_then, item_then, items_then, aim_then, goal_then, tree_then};
@@ -12,7 +12,7 @@ use crate::expression::{Binders, Expr};
 use crate::failure::Failure;
 use crate::group::{Grouped, read_repeated};
 use crate::keyword::{Index, Int, Maximise, Minimise, Post, Real, Satisfy, Set, Var};
-use crate::part::{Behind, Mark, Pair, Part, Within};
+use crate::part::{Behind, Mark, Pair, Part, Within, joined};
 use crate::place::Place;
 use crate::reader::Reader;
 use crate::rule::{Rule, read_rule, read_rule_behind};
@@ -373,14 +373,25 @@ impl Part for Tree {
     }
 }
 
+/// Tells whether the text ends where the reader stands.
+fn read_end(reader: &Reader<'_>) -> Result<(), Failure>
+    ensures end { OnOk result ((next reader.now ≡ 69) × (reader.now.later ≡ [])) }
+    ensures fault { IfErr result (λ e. Fault reader.now (g.token_end ∷ []) reader.now e) }
+{
+    if reader.is_at_end() {
+        Ok(())
+    } else {
+        Err(Failure::Syntax)
+    }
+}
+
 /// Reads a model and the end of the text.
 pub fn read_text(alloc: Global, reader: &mut Reader<'_>) -> Result<Tree, Failure>
     ensures { ReadsAll reader.old (λ t. tree_then (tree_of t)) reader.new result }
 {
     let tree = Tree::read(alloc, reader)?;
-    if reader.is_at_end() {
-        Ok(tree)
-    } else {
-        Err(Failure::Syntax)
-    }
+    let end = read_end(reader);
+    let parts = joined(tree, end)?;
+    let Pair(tree, _) = parts;
+    Ok(tree)
 }

@@ -1,5 +1,6 @@
 //! Parts of a line, which are printed, read and tested alike wherever they stand.
 ghost use Rattle.std.specs.Prelude.{◌≡◌, ◌++◌, ◌↔◌, IsTrue, List, ℕ, OnOk};
+ghost use Rattle.sm_step.specs.PartText.{number_text};
 ghost use Rattle.sm_step.specs.Reading.{Reads};
 ghost use Rattle.sm_step.specs.Taking.{Takes};
 
@@ -32,8 +33,23 @@ pub(crate) trait Part: Sized + Drop + MadeWith<Global> {
         ensures { IsTrue result ↔ fits self.now };
 }
 
+/// Appends words.
+pub(crate) fn push_words(into: &mut Vec<u8>, words: &[u8]) -> Result<(), OutOfMemory>
+    ensures { OnOk result (into.new.items ≡ into.old.items ++ words.now) }
+{
+    into.extend_from_slice(words)?;
+    Ok(())
+}
+
+/// Appends a word and a number.
+pub(crate) fn push_numbered(into: &mut Vec<u8>, word: &[u8], number: u64) -> Result<(), OutOfMemory>
+    ensures { OnOk result (into.new.items ≡ into.old.items ++ (word.now ++ number_text number)) }
+{
+    into.extend_from_slice(word)?;
+    push_whole(into, i128::from(number))
+}
+
 impl Part for u32 {
-    ghost use Rattle.sm_step.specs.PartText.{number_text};
     ghost use Rattle.sm_step.specs.Reading.{number_in};
     ghost use Rattle.sm_step.specs.Grammar.{IsNumber};
 

@@ -1,5 +1,6 @@
 //! Patterns, programs and operations in a line.
 ghost use Rattle.std.specs.Prelude.{◌≡◌, ◌++◌, ◌↔◌, IsTrue, codes, Some, None, Err, IfOk, OnOk};
+ghost use Rattle.sm_step.specs.PartText.{number_text, list_text, joined_or_none};
 ghost use Rattle.sm_step.specs.Text.{listed_text, pattern_text, program_text, operation_text};
 ghost use Rattle.sm_step.specs.LineReading.{listed_pattern_in, pattern_in, program_in, operation_in};
 ghost use Rattle.sm_step.specs.Grammar.{IsListed, IsPattern, IsProgram};
@@ -8,18 +9,25 @@ ghost use Rattle.sm_step.specs.Taking.{Takes, TakesBehind};
 use crate::cursor::Cursor;
 use crate::line::{Listed, NorangeOf, Pattern};
 use crate::lists::{all_in_range, push_listed, read_listed};
-use crate::part::Part;
+use crate::part::{Part, push_numbered, push_words};
 use crate::row_range::is_list;
 use sm_base::{OutOfMemory, push_whole};
 use sm_frac::Op;
 use std::alloc::Global;
 
+/// Appends a group and its items.
+fn push_group(into: &mut Vec<u8>, group: u32, items: &[u32]) -> Result<(), OutOfMemory>
+    ensures { OnOk result (into.new.items ≡ into.old.items ++ (number_text group ++ codes ":" ++ list_text items.now)) }
+{
+    push_whole(into, i128::from(group))?;
+    into.extend_from_slice(b":")?;
+    push_listed(into, b',', items)
+}
+
 fn push_listed_pattern(into: &mut Vec<u8>, pattern: &Listed) -> Result<(), OutOfMemory>
     ensures { OnOk result (into.new.items ≡ into.old.items ++ listed_text pattern.now) }
 {
-    push_whole(into, i128::from(pattern.group))?;
-    into.extend_from_slice(b":")?;
-    push_listed(into, b',', pattern.items.as_slice())
+    push_group(into, pattern.group, pattern.items.as_slice())
 }
 
 fn read_listed_pattern(alloc: Global, cursor: &mut Cursor<'_>) -> Listed
@@ -64,9 +72,7 @@ impl Part for Listed {
 fn push_pattern(into: &mut Vec<u8>, pattern: &Pattern) -> Result<(), OutOfMemory>
     ensures { OnOk result (into.new.items ≡ into.old.items ++ pattern_text pattern.now) }
 {
-    push_whole(into, i128::from(pattern.group))?;
-    into.extend_from_slice(b":")?;
-    push_listed(into, b',', pattern.items.as_slice())?;
+    push_group(into, pattern.group, pattern.items.as_slice())?;
     into.extend_from_slice(b":")?;
     push_whole(into, pattern.weight)
 }
@@ -116,18 +122,22 @@ impl Part for Pattern {
     }
 }
 
+/// Appends a packing's program.
+fn push_pack(into: &mut Vec<u8>, k: u32, patterns: &[Listed]) -> Result<(), OutOfMemory>
+    ensures { OnOk result (into.new.items ≡ into.old.items ++ (codes "pack." ++ number_text k ++ codes " " ++ joined_or_none 59 listed_text patterns.now)) }
+{
+    push_numbered(into, b"pack.", u64::from(k))?;
+    into.extend_from_slice(b" ")?;
+    push_listed(into, b';', patterns)
+}
+
 pub(crate) fn push_program(into: &mut Vec<u8>, program: &NorangeOf) -> Result<(), OutOfMemory>
     ensures { OnOk result (into.new.items ≡ into.old.items ++ program_text program.now) }
 {
     match program {
-        NorangeOf::Relax => Ok(into.extend_from_slice(b"relax")?),
-        NorangeOf::Leaf => Ok(into.extend_from_slice(b"leaf")?),
-        NorangeOf::Pack { k, patterns } => {
-            into.extend_from_slice(b"pack.")?;
-            push_whole(into, i128::from(*k))?;
-            into.extend_from_slice(b" ")?;
-            push_listed(into, b';', patterns.as_slice())
-        }
+        NorangeOf::Relax => push_words(into, b"relax"),
+        NorangeOf::Leaf => push_words(into, b"leaf"),
+        NorangeOf::Pack { k, patterns } => push_pack(into, *k, patterns.as_slice()),
     }
 }
 

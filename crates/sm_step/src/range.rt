@@ -1,6 +1,6 @@
 //! Which lines are in the ranges of the grammar.
 ghost use Rattle.std.specs.Prelude.{◌≡◌, ◌↔◌, IsTrue, All};
-ghost use Rattle.sm_step.specs.Grammar.{IsSome, IsWideNumber, IsLiteral, IsDenominator, AreInLowestTerms, AreValues, ArePrices, IsTask, IsRule, IsOutcome, IsOneOutcome, IsTerm, IsPattern, IsInRange};
+ghost use Rattle.sm_step.specs.Grammar.{IsSome, IsLongNumber, IsNumber, IsList, IsWideNumber, IsLiteral, IsDenominator, AreInLowestTerms, AreValues, ArePrices, IsTask, IsRule, IsOutcome, IsOneOutcome, IsTerm, IsPattern, IsInRange};
 
 use crate::line::{Line, Outcome, Pattern};
 use crate::lists::all_in_range;
@@ -8,7 +8,7 @@ use crate::literal::is_literal;
 use crate::part::Part;
 use crate::pattern_text::is_program;
 use crate::row::Term;
-use crate::row_range::{are_columns, is_list, is_long_number, is_row};
+use crate::row_range::{are_columns, are_numbers, is_list, is_long_number, is_row};
 use crate::rule::Rule;
 use crate::verdict_text::is_verdict;
 use sm_flat::Literal;
@@ -61,18 +61,18 @@ fn is_rule(rule: &Rule) -> bool
     ensures { IsTrue result ↔ IsRule rule.now }
 {
     match rule {
-        Rule::Sum { k, half } => k.is_in_range() && half.is_in_range(),
-        Rule::Clause { k, clause } => k.is_in_range() && clause.is_in_range(),
-        Rule::When { k, half } => k.is_in_range() && half.is_in_range(),
+        Rule::Sum { k, half: other }
+        | Rule::Clause { k, clause: other }
+        | Rule::When { k, half: other }
+        | Rule::Cap { k, group: other }
+        | Rule::Chain { k, place: other } => are_numbers(*k, *other),
         Rule::Elem { k } | Rule::Isum { k } | Rule::Pay { k } => k.is_in_range(),
         Rule::Time { k, moment, task } => k.is_in_range() && moment.is_in_range() && is_task(*task),
         Rule::Hall { k, w } | Rule::Energy { k, w } | Rule::Load { k, w } => k.is_in_range()
             && is_list(w.as_slice()),
         Rule::After { k, task, w, v } | Rule::Before { k, task, w, v } => {
-            k.is_in_range() && task.is_in_range() && is_list(w.as_slice()) && is_list(v.as_slice())
+            are_numbers(*k, *task) && is_list(w.as_slice()) && is_list(v.as_slice())
         }
-        Rule::Cap { k, group } => k.is_in_range() && group.is_in_range(),
-        Rule::Chain { k, place } => k.is_in_range() && place.is_in_range(),
     }
 }
 
@@ -115,6 +115,35 @@ fn are_patterns(patterns: &[Pattern]) -> bool
     all_in_range(patterns)
 }
 
+fn is_node(id: u64, parent: u64, literal: &Literal) -> bool
+    ensures { IsTrue result ↔ (IsLongNumber id × IsLongNumber parent × IsLiteral literal.now) }
+{
+    is_long_number(id) && is_long_number(parent) && is_literal(literal)
+}
+
+fn is_price(k: u32, denominator: i64, prices: &[i128], scale: i64, patterns: &[Pattern]) -> bool
+    ensures { IsTrue result ↔ (IsNumber k × ArePrices denominator prices.now × IsDenominator scale × All IsPattern patterns.now) }
+{
+    k.is_in_range()
+        && are_prices(denominator, prices)
+        && is_denominator(scale)
+        && are_patterns(patterns)
+}
+
+/// Whether nodes that a circuit leaves are some, and in range.
+fn is_leave(k: u32, nodes: &[u32]) -> bool
+    ensures { IsTrue result ↔ (IsNumber k × IsSome nodes.now × IsList nodes.now) }
+{
+    k.is_in_range() && !nodes.is_empty() && is_list(nodes)
+}
+
+/// Whether there is a term and all are in range.
+fn is_combination(terms: &[Term]) -> bool
+    ensures { IsTrue result ↔ (IsSome terms.now × All IsTerm terms.now) }
+{
+    !terms.is_empty() && are_terms(terms)
+}
+
 /// Whether what the line says is in range.
 pub(crate) fn is_in_range(line: &Line) -> bool
     ensures { IsTrue result ↔ IsInRange line.now }
@@ -125,7 +154,7 @@ pub(crate) fn is_in_range(line: &Line) -> bool
             id,
             parent,
             literal,
-        } => is_long_number(*id) && is_long_number(*parent) && is_literal(literal),
+        } => is_node(*id, *parent, literal),
         Line::At { id } => is_long_number(*id),
         Line::Infer { rule, result } => is_rule(rule) && is_outcome(result),
         Line::Lemma { lemma, result } => is_long_number(*lemma) && is_one_outcome(result),
@@ -152,22 +181,21 @@ pub(crate) fn is_in_range(line: &Line) -> bool
             prices,
             scale,
             patterns,
-        } => {
-            k.is_in_range()
-                && are_prices(*denominator, prices.as_slice())
-                && is_denominator(*scale)
-                && are_patterns(patterns.as_slice())
-        }
+        } => is_price(
+            *k,
+            *denominator,
+            prices.as_slice(),
+            *scale,
+            patterns.as_slice(),
+        ),
         Line::Farkas {
             k,
             denominator,
             prices,
         } => k.is_in_range() && are_prices(*denominator, prices.as_slice()),
-        Line::CutGomory { terms } => !terms.as_slice().is_empty() && are_terms(terms.as_slice()),
+        Line::CutGomory { terms } => is_combination(terms.as_slice()),
         Line::CutCover { row, columns } => is_row(row) && are_columns(columns.as_slice()),
-        Line::CutLeave { k, nodes } => k.is_in_range()
-            && !nodes.as_slice().is_empty()
-            && is_list(nodes.as_slice()),
+        Line::CutLeave { k, nodes } => is_leave(*k, nodes.as_slice()),
         Line::Assume { literals } => are_literals(literals.as_slice()),
         Line::Feasible {
             sub,

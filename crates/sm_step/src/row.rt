@@ -3,7 +3,7 @@ use crate::short::Short;
 use sm_frac::Frac;
 
 /// A column of a row.
-#[derive(Clone, Copy, Debug, PartialEq, Eq)]
+#[derive(Clone, Copy)]
 pub enum Col {
     /// The value of a variable.
     Var(u32),

@@ -1,6 +1,6 @@
 //! Which columns and rows are in the ranges of the grammar.
 ghost use Rattle.std.specs.Prelude.{◌↔◌, IsTrue};
-ghost use Rattle.sm_step.specs.Grammar.{IsLongNumber, IsList, IsColumn, ComesBefore, FollowInOrder, AreColumns, IsRow};
+ghost use Rattle.sm_step.specs.Grammar.{IsLongNumber, IsNumber, IsList, IsColumn, ComesBefore, FollowInOrder, AreColumns, IsRow};
 
 use crate::cursor::Cursor;
 use crate::part::Part;
@@ -31,6 +31,13 @@ pub(crate) fn is_list(numbers: &[u32]) -> bool
         least = number + 1;
     }
     true
+}
+
+/// Whether two numbers are in range.
+pub(crate) fn are_numbers(first: u32, second: u32) -> bool
+    ensures { IsTrue result ↔ (IsNumber first × IsNumber second) }
+{
+    first.is_in_range() && second.is_in_range()
 }
 
 fn is_column(column: Col) -> bool
@@ -84,14 +91,15 @@ pub(crate) fn is_row(row: &RowRef) -> bool
     match row {
         RowRef::Lin { k } | RowRef::Table { k } | RowRef::Pack { k } => k.is_in_range(),
         RowRef::Link { var } | RowRef::Mean { var } => var.is_in_range(),
-        RowRef::Clause { k, clause } => k.is_in_range() && clause.is_in_range(),
-        RowRef::When { k, half } => k.is_in_range() && half.is_in_range(),
-        RowRef::Value { k, value } => k.is_in_range() && value.is_in_range(),
-        RowRef::Time { k, moment } => k.is_in_range() && moment.is_in_range(),
+        RowRef::Clause { k, clause: other }
+        | RowRef::When { k, half: other }
+        | RowRef::Cap { k, group: other }
+        | RowRef::Once { k, node: other }
+        | RowRef::SelfLoop { k, place: other } => are_numbers(*k, *other),
+        RowRef::Value { k, value: other } | RowRef::Time { k, moment: other } => {
+            k.is_in_range() && other.is_in_range()
+        }
         RowRef::Par { k, tasks } => k.is_in_range() && is_list(tasks.as_slice()),
-        RowRef::Cap { k, group } => k.is_in_range() && group.is_in_range(),
-        RowRef::Once { k, node } => k.is_in_range() && node.is_in_range(),
-        RowRef::SelfLoop { k, place } => k.is_in_range() && place.is_in_range(),
         RowRef::Cut { cut } => is_long_number(*cut),
         RowRef::Goal { .. } | RowRef::Named { .. } => false,
     }

@@ -9,38 +9,34 @@ ghost use Rattle.sm_step.specs.Taking.{Takes, TakesBehind};
 use crate::cursor::Cursor;
 use crate::fraction::{push_fraction, read_fraction};
 use crate::lists::{push_listed, read_listed};
+use crate::part::push_numbered;
 use crate::row::{Col, RowRef, Term};
 use sm_base::{OutOfMemory, push_whole};
 use std::alloc::Global;
 
+/// Appends the column of a variable's value.
+fn push_value_column(into: &mut Vec<u8>, var: u32, value: i64) -> Result<(), OutOfMemory>
+    ensures { OnOk result (into.new.items ≡ into.old.items ++ (codes "v" ++ number_text var ++ codes "=" ++ whole_text value)) }
+{
+    push_numbered(into, b"v", u64::from(var))?;
+    into.extend_from_slice(b"=")?;
+    push_whole(into, i128::from(value))
+}
+
 pub(crate) fn push_column(into: &mut Vec<u8>, column: &Col) -> Result<(), OutOfMemory>
     ensures { OnOk result (into.new.items ≡ into.old.items ++ column_text column.now) }
 {
-    into.extend_from_slice(b"v")?;
     match column {
-        Col::Var(var) => push_whole(into, i128::from(*var)),
-        Col::Is(var, value) => {
-            push_whole(into, i128::from(*var))?;
-            into.extend_from_slice(b"=")?;
-            push_whole(into, i128::from(*value))
-        }
+        Col::Var(var) => push_numbered(into, b"v", u64::from(*var)),
+        Col::Is(var, value) => push_value_column(into, *var, *value),
     }
-}
-
-/// Appends a name and a number.
-fn push_named(into: &mut Vec<u8>, name: &[u8], number: u64) -> Result<(), OutOfMemory>
-    ensures { OnOk result (into.new.items ≡ into.old.items ++ name.now ++ number_text number) }
-{
-    into.extend_from_slice(name)?;
-    push_whole(into, i128::from(number))
 }
 
 /// Appends a name, a number, a point and a whole number.
 fn push_pair(into: &mut Vec<u8>, name: &[u8], k: u32, number: i128) -> Result<(), OutOfMemory>
     ensures { OnOk result (into.new.items ≡ into.old.items ++ (name.now ++ number_text k ++ codes "." ++ whole_text number)) }
 {
-    into.extend_from_slice(name)?;
-    push_whole(into, i128::from(k))?;
+    push_numbered(into, name, u64::from(k))?;
     into.extend_from_slice(b".")?;
     push_whole(into, number)
 }
@@ -49,8 +45,7 @@ fn push_pair(into: &mut Vec<u8>, name: &[u8], k: u32, number: i128) -> Result<()
 fn push_tasks(into: &mut Vec<u8>, k: u32, tasks: &[u32]) -> Result<(), OutOfMemory>
     ensures { OnOk result (into.new.items ≡ into.old.items ++ (codes "par." ++ number_text k ++ codes "." ++ list_text tasks.now)) }
 {
-    into.extend_from_slice(b"par.")?;
-    push_whole(into, i128::from(k))?;
+    push_numbered(into, b"par.", u64::from(k))?;
     into.extend_from_slice(b".")?;
     push_listed(into, b',', tasks)
 }
@@ -59,22 +54,22 @@ pub(crate) fn push_row(into: &mut Vec<u8>, row: &RowRef) -> Result<(), OutOfMemo
     ensures { OnOk result (into.new.items ≡ into.old.items ++ row_text row.now) }
 {
     match row {
-        RowRef::Lin { k } => push_named(into, b"lin.", u64::from(*k)),
-        RowRef::Link { var } => push_named(into, b"link.", u64::from(*var)),
-        RowRef::Mean { var } => push_named(into, b"mean.", u64::from(*var)),
+        RowRef::Lin { k } => push_numbered(into, b"lin.", u64::from(*k)),
+        RowRef::Link { var } => push_numbered(into, b"link.", u64::from(*var)),
+        RowRef::Mean { var } => push_numbered(into, b"mean.", u64::from(*var)),
         RowRef::Clause { k, clause } => push_pair(into, b"clause.", *k, i128::from(*clause)),
         RowRef::When { k, half } => push_pair(into, b"when.", *k, i128::from(*half)),
         RowRef::Value { k, value } => push_pair(into, b"value.", *k, *value),
-        RowRef::Table { k } => push_named(into, b"table.", u64::from(*k)),
+        RowRef::Table { k } => push_numbered(into, b"table.", u64::from(*k)),
         RowRef::Time { k, moment } => push_pair(into, b"time.", *k, *moment),
         RowRef::Par { k, tasks } => push_tasks(into, *k, tasks.as_slice()),
         RowRef::Cap { k, group } => push_pair(into, b"cap.", *k, i128::from(*group)),
-        RowRef::Pack { k } => push_named(into, b"pack.", u64::from(*k)),
+        RowRef::Pack { k } => push_numbered(into, b"pack.", u64::from(*k)),
         RowRef::Once { k, node } => push_pair(into, b"once.", *k, i128::from(*node)),
         RowRef::SelfLoop { k, place } => push_pair(into, b"self.", *k, i128::from(*place)),
-        RowRef::Cut { cut } => push_named(into, b"cut.", *cut),
-        RowRef::Goal { level } => push_named(into, b"goal.", u64::from(*level)),
-        RowRef::Named { name } => push_named(into, b"r", *name),
+        RowRef::Cut { cut } => push_numbered(into, b"cut.", *cut),
+        RowRef::Goal { level } => push_numbered(into, b"goal.", u64::from(*level)),
+        RowRef::Named { name } => push_numbered(into, b"r", *name),
     }
 }
 

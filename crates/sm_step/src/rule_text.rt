@@ -9,6 +9,7 @@ ghost use Rattle.sm_step.specs.Taking.{Takes, TakesBehind};
 use crate::cursor::Cursor;
 use crate::line::Outcome;
 use crate::lists::{push_joined, push_listed, read_joined, read_listed};
+use crate::part::{push_numbered, push_words};
 use crate::rule::Rule;
 use crate::short::Short;
 use sm_base::{OutOfMemory, push_whole};
@@ -19,23 +20,15 @@ fn push_task(into: &mut Vec<u8>, task: Option<u32>) -> Result<(), OutOfMemory>
 {
     match task {
         Some(task) => push_whole(into, i128::from(task)),
-        None => Ok(into.extend_from_slice(b"-")?),
+        None => push_words(into, b"-"),
     }
 }
 
-/// Appends a rule's name and a constraint's number.
-fn push_rule_name(into: &mut Vec<u8>, name: &[u8], k: u32) -> Result<(), OutOfMemory>
-    ensures { OnOk result (into.new.items ≡ into.old.items ++ (name.now ++ number_text k)) }
-{
-    into.extend_from_slice(name)?;
-    push_whole(into, i128::from(k))
-}
-
-/// Appends the same and a number behind a space.
+/// Appends a rule's name, a constraint's number and a number behind a space.
 fn push_two_numbers(into: &mut Vec<u8>, name: &[u8], k: u32, number: u32) -> Result<(), OutOfMemory>
     ensures { OnOk result (into.new.items ≡ into.old.items ++ (name.now ++ number_text k ++ codes " " ++ number_text number)) }
 {
-    push_rule_name(into, name, k)?;
+    push_numbered(into, name, u64::from(k))?;
     into.extend_from_slice(b" ")?;
     push_whole(into, i128::from(number))
 }
@@ -49,7 +42,7 @@ fn push_number_and_list(
 ) -> Result<(), OutOfMemory>
     ensures { OnOk result (into.new.items ≡ into.old.items ++ (name.now ++ number_text k ++ codes " " ++ list_text w.now)) }
 {
-    push_rule_name(into, name, k)?;
+    push_numbered(into, name, u64::from(k))?;
     into.extend_from_slice(b" ")?;
     push_listed(into, b',', w)
 }
@@ -76,7 +69,7 @@ fn push_order(
 fn push_time(into: &mut Vec<u8>, k: u32, moment: i128, task: Option<u32>) -> Result<(), OutOfMemory>
     ensures { OnOk result (into.new.items ≡ into.old.items ++ (codes "time " ++ number_text k ++ codes " " ++ whole_text moment ++ codes " " ++ task_text task)) }
 {
-    push_rule_name(into, b"time ", k)?;
+    push_numbered(into, b"time ", u64::from(k))?;
     into.extend_from_slice(b" ")?;
     push_whole(into, moment)?;
     into.extend_from_slice(b" ")?;
@@ -91,8 +84,8 @@ pub(crate) fn push_rule(into: &mut Vec<u8>, rule: &Rule) -> Result<(), OutOfMemo
         Rule::Clause { k, clause } => push_two_numbers(into, b"clause ", *k, *clause),
         Rule::When { k, half } => push_two_numbers(into, b"when ", *k, *half),
         Rule::Hall { k, w } => push_number_and_list(into, b"hall ", *k, w.as_slice()),
-        Rule::Elem { k } => push_rule_name(into, b"elem ", *k),
-        Rule::Isum { k } => push_rule_name(into, b"isum ", *k),
+        Rule::Elem { k } => push_numbered(into, b"elem ", u64::from(*k)),
+        Rule::Isum { k } => push_numbered(into, b"isum ", u64::from(*k)),
         Rule::Time { k, moment, task } => push_time(into, *k, *moment, *task),
         Rule::Energy { k, w } => push_number_and_list(into, b"energy ", *k, w.as_slice()),
         Rule::Load { k, w } => push_number_and_list(into, b"load ", *k, w.as_slice()),
@@ -113,7 +106,7 @@ pub(crate) fn push_rule(into: &mut Vec<u8>, rule: &Rule) -> Result<(), OutOfMemo
             v.as_slice(),
         ),
         Rule::Cap { k, group } => push_two_numbers(into, b"cap ", *k, *group),
-        Rule::Pay { k } => push_rule_name(into, b"pay ", *k),
+        Rule::Pay { k } => push_numbered(into, b"pay ", u64::from(*k)),
         Rule::Chain { k, place } => push_two_numbers(into, b"chain ", *k, *place),
     }
 }
@@ -122,7 +115,7 @@ pub(crate) fn push_outcome(into: &mut Vec<u8>, outcome: &Outcome) -> Result<(), 
     ensures { OnOk result (into.new.items ≡ into.old.items ++ outcome_text outcome.now) }
 {
     match outcome {
-        Outcome::Close => Ok(into.extend_from_slice(b"close")?),
+        Outcome::Close => push_words(into, b"close"),
         Outcome::Literals(literals) => push_joined(into, b' ', literals.as_slice()),
     }
 }

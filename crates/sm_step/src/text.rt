@@ -4,37 +4,23 @@ ghost use Rattle.sm_base.specs.Whole.{whole_text};
 ghost use Rattle.sm_step.specs.PartText.{number_text, list_text, prices_text, literal_text, fraction_text, each_after, joined, spaced};
 ghost use Rattle.sm_step.specs.RowText.{column_text, row_text, terms_text};
 ghost use Rattle.sm_step.specs.RuleText.{rule_text, outcome_text};
-ghost use Rattle.sm_step.specs.Text.{pattern_text, program_text, operation_text, body_text, text_of};
+ghost use Rattle.sm_step.specs.Text.{pattern_text, program_text, operation_text, verdict_text, body_text, text_of};
 
 use crate::fraction::push_fraction;
 use crate::line::{Line, NorangeOf, Outcome, Pattern};
 use crate::lists::{push_each, push_joined, push_listed};
 use crate::literal::push_literal;
+use crate::part::{push_numbered, push_words};
 use crate::pattern_text::{push_operation, push_program};
 use crate::row::{Col, RowRef, Term};
 use crate::row_text::push_row;
 use crate::rule::Rule;
 use crate::rule_text::{push_outcome, push_rule};
+use crate::verdict::Verdict;
 use crate::verdict_text::push_verdict;
 use sm_base::{OutOfMemory, push_whole};
 use sm_flat::Literal;
 use sm_frac::{Frac, Op};
-
-/// Appends words.
-fn push_words(into: &mut Vec<u8>, words: &[u8]) -> Result<(), OutOfMemory>
-    ensures { OnOk result (into.new.items ≡ into.old.items ++ words.now) }
-{
-    into.extend_from_slice(words)?;
-    Ok(())
-}
-
-/// Appends a word and a number.
-fn push_numbered(into: &mut Vec<u8>, word: &[u8], number: u64) -> Result<(), OutOfMemory>
-    ensures { OnOk result (into.new.items ≡ into.old.items ++ (word.now ++ number_text number)) }
-{
-    into.extend_from_slice(word)?;
-    push_whole(into, i128::from(number))
-}
 
 fn push_node(into: &mut Vec<u8>, id: u64, parent: u64, literal: &Literal) -> Result<(), OutOfMemory>
     ensures { OnOk result (into.new.items ≡ into.old.items ++ (codes "node " ++ number_text id ++ codes " " ++ number_text parent ++ codes " " ++ literal_text literal.now)) }
@@ -185,6 +171,49 @@ fn push_basis(into: &mut Vec<u8>, program: &NorangeOf, basis: &[u32]) -> Result<
     push_listed(into, b',', basis)
 }
 
+fn push_norange(
+    into: &mut Vec<u8>,
+    program: &NorangeOf,
+    basis: &[u32],
+    op: Op,
+    left: &Frac,
+    right: &Frac,
+) -> Result<(), OutOfMemory>
+    ensures { OnOk result (into.new.items ≡ into.old.items ++ (codes "norange " ++ program_text program.now ++ codes " " ++ list_text basis.now ++ codes " " ++ operation_text op ++ codes " " ++ fraction_text left.now ++ codes " " ++ fraction_text right.now)) }
+{
+    push_basis(into, program, basis)?;
+    push_step(into, op, left, right)
+}
+
+fn push_price(
+    into: &mut Vec<u8>,
+    k: u32,
+    denominator: i64,
+    prices: &[i128],
+    scale: i64,
+    patterns: &[Pattern],
+) -> Result<(), OutOfMemory>
+    ensures { OnOk result (into.new.items ≡ into.old.items ++ (codes "price " ++ number_text k ++ codes " " ++ whole_text denominator ++ codes " " ++ prices_text prices.now ++ codes " " ++ whole_text scale ++ each_after 32 pattern_text patterns.now)) }
+{
+    push_prices(into, b"price ", k, denominator, prices)?;
+    push_patterns(into, scale, patterns)
+}
+
+fn push_assume(into: &mut Vec<u8>, literals: &[Literal]) -> Result<(), OutOfMemory>
+    ensures { OnOk result (into.new.items ≡ into.old.items ++ (codes "assume" ++ each_after 32 literal_text literals.now)) }
+{
+    into.extend_from_slice(b"assume")?;
+    push_each(into, b' ', literals)
+}
+
+/// Appends the last line.
+fn push_last(into: &mut Vec<u8>, verdict: &Verdict) -> Result<(), OutOfMemory>
+    ensures { OnOk result (into.new.items ≡ into.old.items ++ (codes "verdict " ++ verdict_text verdict.now)) }
+{
+    into.extend_from_slice(b"verdict ")?;
+    push_verdict(into, verdict)
+}
+
 fn push_cover(into: &mut Vec<u8>, row: &RowRef, columns: &[Col]) -> Result<(), OutOfMemory>
     ensures { OnOk result (into.new.items ≡ into.old.items ++ (codes "cut cover " ++ row_text row.now ++ codes " " ++ joined 44 column_text columns.now)) }
 {
@@ -267,20 +296,21 @@ fn push_body(into: &mut Vec<u8>, line: &Line) -> Result<(), OutOfMemory>
             op,
             left,
             right,
-        } => {
-            push_basis(into, of, basis.as_slice())?;
-            push_step(into, *op, left, right)
-        }
+        } => push_norange(into, of, basis.as_slice(), *op, left, right),
         Line::Price {
             k,
             denominator,
             prices,
             scale,
             patterns,
-        } => {
-            push_prices(into, b"price ", *k, *denominator, prices.as_slice())?;
-            push_patterns(into, *scale, patterns.as_slice())
-        }
+        } => push_price(
+            into,
+            *k,
+            *denominator,
+            prices.as_slice(),
+            *scale,
+            patterns.as_slice(),
+        ),
         Line::Farkas {
             k,
             denominator,
@@ -289,10 +319,7 @@ fn push_body(into: &mut Vec<u8>, line: &Line) -> Result<(), OutOfMemory>
         Line::CutGomory { terms } => push_terms(into, b"cut gomory", terms.as_slice()),
         Line::CutCover { row, columns } => push_cover(into, row, columns.as_slice()),
         Line::CutLeave { k, nodes } => push_leave(into, *k, nodes.as_slice()),
-        Line::Assume { literals } => {
-            into.extend_from_slice(b"assume")?;
-            push_each(into, b' ', literals.as_slice())
-        }
+        Line::Assume { literals } => push_assume(into, literals.as_slice()),
         Line::Qed => push_words(into, b"qed"),
         Line::Drop => push_words(into, b"drop"),
         Line::Feasible {
@@ -307,10 +334,7 @@ fn push_body(into: &mut Vec<u8>, line: &Line) -> Result<(), OutOfMemory>
         Line::Name { name, row } => push_name(into, *name, row),
         Line::ForgetLemma { lemma } => push_numbered(into, b"forget lemma ", *lemma),
         Line::ForgetCut { cut } => push_numbered(into, b"forget cut ", *cut),
-        Line::Verdict(verdict) => {
-            into.extend_from_slice(b"verdict ")?;
-            push_verdict(into, verdict)
-        }
+        Line::Verdict(verdict) => push_last(into, verdict),
     }
 }
 

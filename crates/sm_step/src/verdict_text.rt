@@ -1,6 +1,6 @@
 //! Verdicts in a line.
 ghost use Rattle.std.specs.Prelude.{◌≡◌, ◌++◌, ◌↔◌, IsTrue, codes, Some, None, Err, IfOk, OnOk};
-ghost use Rattle.sm_step.specs.PartText.{fraction_text};
+ghost use Rattle.sm_step.specs.PartText.{number_text, fraction_text, value_text};
 ghost use Rattle.sm_step.specs.Text.{best_text, verdict_text};
 ghost use Rattle.sm_step.specs.LineReading.{best_in, bound_in, verdict_in};
 ghost use Rattle.sm_step.specs.Grammar.{IsBest, IsVerdict};
@@ -9,10 +9,11 @@ ghost use Rattle.sm_step.specs.Taking.{Takes, TakesBehind};
 use crate::cursor::Cursor;
 use crate::fraction::{push_fraction, read_fraction};
 use crate::lists::{push_joined, read_joined};
+use crate::part::{push_numbered, push_words};
 use crate::row_range::is_long_number;
 use crate::short::Short;
 use crate::verdict::Verdict;
-use sm_base::{OutOfMemory, push_whole};
+use sm_base::OutOfMemory;
 use sm_frac::Frac;
 use std::alloc::Global;
 
@@ -21,7 +22,7 @@ fn push_best(into: &mut Vec<u8>, best: &Option<Short<Frac>>) -> Result<(), OutOf
 {
     match best {
         Some(values) => push_joined(into, b',', values.as_slice()),
-        None => Ok(into.extend_from_slice(b"none")?),
+        None => push_words(into, b"none"),
     }
 }
 
@@ -38,26 +39,46 @@ fn push_bound(
     push_best(into, best)
 }
 
+fn push_optimal(into: &mut Vec<u8>, values: &[Frac]) -> Result<(), OutOfMemory>
+    ensures { OnOk result (into.new.items ≡ into.old.items ++ (codes "optimal " ++ value_text values.now)) }
+{
+    into.extend_from_slice(b"optimal ")?;
+    push_joined(into, b',', values)
+}
+
+fn push_limit(
+    into: &mut Vec<u8>,
+    nodes: u64,
+    bound: &Frac,
+    best: &Option<Short<Frac>>,
+) -> Result<(), OutOfMemory>
+    ensures { OnOk result (into.new.items ≡ into.old.items ++ (codes "limit " ++ number_text nodes ++ codes " " ++ fraction_text bound.now ++ codes " " ++ best_text best.now)) }
+{
+    push_numbered(into, b"limit ", nodes)?;
+    into.extend_from_slice(b" ")?;
+    push_bound(into, bound, best)
+}
+
+fn push_range(
+    into: &mut Vec<u8>,
+    bound: &Frac,
+    best: &Option<Short<Frac>>,
+) -> Result<(), OutOfMemory>
+    ensures { OnOk result (into.new.items ≡ into.old.items ++ (codes "range " ++ fraction_text bound.now ++ codes " " ++ best_text best.now)) }
+{
+    into.extend_from_slice(b"range ")?;
+    push_bound(into, bound, best)
+}
+
 pub(crate) fn push_verdict(into: &mut Vec<u8>, verdict: &Verdict) -> Result<(), OutOfMemory>
     ensures { OnOk result (into.new.items ≡ into.old.items ++ verdict_text verdict.now) }
 {
     match verdict {
-        Verdict::Optimal { values } => {
-            into.extend_from_slice(b"optimal ")?;
-            push_joined(into, b',', values.as_slice())
-        }
-        Verdict::Satisfied => Ok(into.extend_from_slice(b"satisfied")?),
-        Verdict::Infeasible => Ok(into.extend_from_slice(b"infeasible")?),
-        Verdict::Limit { nodes, bound, best } => {
-            into.extend_from_slice(b"limit ")?;
-            push_whole(into, i128::from(*nodes))?;
-            into.extend_from_slice(b" ")?;
-            push_bound(into, bound, best)
-        }
-        Verdict::Range { bound, best } => {
-            into.extend_from_slice(b"range ")?;
-            push_bound(into, bound, best)
-        }
+        Verdict::Optimal { values } => push_optimal(into, values.as_slice()),
+        Verdict::Satisfied => push_words(into, b"satisfied"),
+        Verdict::Infeasible => push_words(into, b"infeasible"),
+        Verdict::Limit { nodes, bound, best } => push_limit(into, *nodes, bound, best),
+        Verdict::Range { bound, best } => push_range(into, bound, best),
     }
 }
 

@@ -14,14 +14,8 @@ use Rattle.sm_rules.specs.Places.{AreRising, IsPlace, at_place}
 use Rattle.sm_rules.specs.KeptNodes.{narrow_all, node_of, with_store, nodes_of, IsNotUnder}
 use Rattle.sm_rules.proofs.Levels.{both_true}
 use Rattle.sm_rules.proofs.NodeLists.{pairs_head, pairs_tail}
-use Rattle.sm_rules.proofs.Places.{rising_head, rising_tail}
+use Rattle.sm_rules.proofs.Places.{same_number, other_number, rising_head, rising_tail}
 use Rattle.sm_rules.proofs.Pruning.{AllNeeded}
-
-same_number : (a b : ℕ) → a ≡ b → (a == b) ≡ true
-same_number a b e = grind (arith, nat_tests)
-
-other_number : (a b : ℕ) → a ≢ b → (a == b) ≡ false
-other_number a b e = grind (arith, nat_tests)
 
 test_other : (a b : ℕ) → not (a == b) ≡ true → a ≢ b
 test_other a b t e = grind (arith, nat_tests)

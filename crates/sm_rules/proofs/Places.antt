@@ -9,11 +9,11 @@ use Rattle.sm_rules.specs.Nodes.{NodeOf, no_node}
 use Rattle.sm_rules.specs.Trees.{node_at, set_node, without_node}
 use Rattle.sm_rules.specs.Places.{AreRising, IsPlace, at_place}
 
-same_test : (a b : ℕ) → a ≡ b → (a == b) ≡ true
-same_test a b e = grind (arith, nat_tests)
+pub same_number : (a b : ℕ) → a ≡ b → (a == b) ≡ true
+same_number a b e = grind (arith, nat_tests)
 
-other_test : (a b : ℕ) → a ≢ b → (a == b) ≡ false
-other_test a b e = grind (arith, nat_tests)
+pub other_number : (a b : ℕ) → a ≢ b → (a == b) ≡ false
+other_number a b e = grind (arith, nat_tests)
 
 module _ {E : Type 0} where
   pub rising_tail : (n : NodeOf E) (ns : List (NodeOf E)) → AreRising (n ∷ ns) → AreRising ns
@@ -34,25 +34,25 @@ module _ {E : Type 0} where
   before_place n ns i k h p =
       let below : n.number < (at_place ns i).number = rising_head n ns h i no_node p.within in
       let here = p.here in
-      other_test n.number k (λ e. absurd (omega arith))
+      other_number n.number k (λ e. absurd (omega arith))
 
   pub node_at_place : (ns : List (NodeOf E)) (i k : ℕ) → AreRising ns → IsPlace ns i k → node_at ns k ≡ at_place ns i
   node_at_place [] i k h p = absurd (let w = p.within in omega arith)
-  node_at_place (n ∷ ns) zero k h p = rw (same_test n.number k p.here) refl
+  node_at_place (n ∷ ns) zero k h p = rw (same_number n.number k p.here) refl
   node_at_place (n ∷ ns) (suc i) k h p =
       let there = place_tail n ns i k p in
       rw (before_place n ns i k h there) (node_at_place ns i k (rising_tail n ns h) there)
 
   pub set_node_place : (ns : List (NodeOf E)) (i k : ℕ) (new : NodeOf E) → AreRising ns → IsPlace ns i k → set_node ns k new ≡ set ns i new
   set_node_place [] i k new h p = absurd (let w = p.within in omega arith)
-  set_node_place (n ∷ ns) zero k new h p = rw (same_test n.number k p.here) refl
+  set_node_place (n ∷ ns) zero k new h p = rw (same_number n.number k p.here) refl
   set_node_place (n ∷ ns) (suc i) k new h p =
       let there = place_tail n ns i k p in
       rw (before_place n ns i k h there, set_node_place ns i k new (rising_tail n ns h) there) refl
 
   pub without_node_place : (ns : List (NodeOf E)) (i k : ℕ) → AreRising ns → IsPlace ns i k → without_node ns k ≡ remove ns i
   without_node_place [] i k h p = absurd (let w = p.within in omega arith)
-  without_node_place (n ∷ ns) zero k h p = rw (same_test n.number k p.here) refl
+  without_node_place (n ∷ ns) zero k h p = rw (same_number n.number k p.here) refl
   without_node_place (n ∷ ns) (suc i) k h p =
       let there = place_tail n ns i k p in
       rw (before_place n ns i k h there, without_node_place ns i k (rising_tail n ns h) there) refl
@@ -60,7 +60,7 @@ module _ {E : Type 0} where
   -- where no node has the number
   pub node_at_none : (ns : List (NodeOf E)) (k : ℕ) → All (λ (n : NodeOf E). n.number ≢ k) ns → node_at ns k ≡ no_node
   node_at_none [] k h = refl
-  node_at_none (n ∷ ns) k h = rw (other_test n.number k (h zero n (omega arith))) (node_at_none ns k (All-tail (λ (m : NodeOf E). m.number ≢ k) n ns h))
+  node_at_none (n ∷ ns) k h = rw (other_number n.number k (h zero n (omega arith))) (node_at_none ns k (All-tail (λ (m : NodeOf E). m.number ≢ k) n ns h))
 
   -- the node that was read at a place
   pub at_read : (ns : List (NodeOf E)) (i : ℕ) (x : NodeOf E) → i < length ns → x ≡ get_or ns i x → at_place ns i ≡ x

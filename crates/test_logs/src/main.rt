@@ -3,9 +3,9 @@
 //! The arguments name the tables. The keys of a case: `case` and its name; `var`, a kind and values; `row`, a comparison, a bound
 //! and terms, each a variable's number, a colon and a coefficient; `goal`, a sense and terms; `model`, which makes a model of these.
 //! Of a model: `solves` and an assignment, its denominator first; `value`, a level and an assignment; `narrow`, a literal by which
-//! its store is narrowed; `domain`, a variable; `apply`, whose text has lines of a log; `state`, what is asked of the log's state.
-//! Without a model: `read`, whose text is to be a line. `answer` puts what these answered, one line each; what stands below it in
-//! a table is the expected answer, which the stored output has too; it isn't looked at.
+//! its store is narrowed; `domain` and `words`, a variable; `apply`, whose text has lines of a log; `state`, what is asked of the
+//! log's state. Without a model: `read`, whose text is to be a line. `answer` puts what these answered, one line each; what stands
+//! below it in a table is the expected answer, which the stored output has too; it isn't looked at.
 #![tactic(auto)]
 
 mod parts;

@@ -130,6 +130,7 @@ impl Subject {
             "value" => self.answer_value(alloc, text, answers),
             "narrow" => self.answer_narrow(alloc, text, answers),
             "domain" => self.answer_domain(alloc, text, answers),
+            "words" => self.answer_words(alloc, text, answers),
             "apply" => self.answer_apply(alloc, &entry.text, answers),
             "state" => Ok(self.answer_state(alloc, answers)?),
             other => bail!("{other} is no key"),
@@ -218,6 +219,24 @@ impl Subject {
     fn answer_domain(&self, alloc: Global, text: &str, answers: &mut Answers) -> Result<()> {
         let var = text.parse::<u32>()?;
         add_text(self.domain_text(alloc, var), answers)
+    }
+
+    /// The base and the words of a variable's domain, where it is a set.
+    fn words_text(&self, alloc: Global, var: u32) -> Result<String> {
+        if var as usize >= self.store.len() {
+            return Ok(String::from_str(alloc, "no variable")?);
+        }
+        let text = match self.store.words(var) {
+            Some((base, words)) => format!(in alloc; "base {base} words {words:?}")?,
+            None => String::from_str(alloc, "no set")?,
+        };
+        Ok(text)
+    }
+
+    /// Answers the base and the words of a variable's domain.
+    fn answer_words(&self, alloc: Global, text: &str, answers: &mut Answers) -> Result<()> {
+        let var = text.parse::<u32>()?;
+        add_text(self.words_text(alloc, var), answers)
     }
 
     /// Applies each line of a text.

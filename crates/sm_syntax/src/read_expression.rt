@@ -212,7 +212,9 @@ fn read_named(alloc: Global, reader: &mut Reader<'_>) -> Result<Factor, Failure>
 {
     let place = reader.place();
     let name = reader.name(alloc)?;
-    let indices = read_indices(alloc, reader)?;
+    let indices = read_indices(alloc, reader);
+    let parts = joined(name, indices)?;
+    let Pair(name, indices) = parts;
     Ok(Factor::from_name(place, name, indices))
 }
 
@@ -268,7 +270,9 @@ fn read_group(alloc: Global, reader: &mut Reader<'_>) -> Result<Factor, Failure>
 {
     let place = reader.place();
     let inner = read_bracketed(alloc, reader)?;
-    reader.close(Terminal::CloseRound)?;
+    let closed = reader.close(Terminal::CloseRound);
+    let parts = joined(inner, closed)?;
+    let Pair(inner, _) = parts;
     Ok(Factor::from_group(place, inner))
 }
 
@@ -292,7 +296,9 @@ fn read_sum(alloc: Global, reader: &mut Reader<'_>) -> Result<Factor, Failure>
     let place = reader.place();
     reader.expect(Terminal::Sum)?;
     let summand = read_bracketed(alloc, reader)?;
-    let binders = read_scope(alloc, reader)?;
+    let binders = read_scope(alloc, reader);
+    let parts = joined(summand, binders)?;
+    let Pair(summand, binders) = parts;
     let binders = Boxed::new(alloc, binders)?;
     Ok(Factor::from_sum(place, summand, binders))
 }
@@ -304,7 +310,9 @@ pub fn read_scope(alloc: Global, reader: &mut Reader<'_>) -> Result<Binders, Fai
 {
     reader.expect(Terminal::For)?;
     let binders = read_binders(alloc, reader)?;
-    reader.close(Terminal::CloseRound)?;
+    let closed = reader.close(Terminal::CloseRound);
+    let parts = joined(binders, closed)?;
+    let Pair(binders, _) = parts;
     Ok(binders)
 }
 
@@ -315,8 +323,9 @@ fn read_binders(alloc: Global, reader: &mut Reader<'_>) -> Result<Binders, Failu
 {
     let place = reader.place();
     let parts = Pair::<Bind, Items<Bind>>::read(alloc, reader)?;
-    let Pair(first, more) = parts;
-    let tests = read_tests(alloc, reader)?;
+    let tests = read_tests(alloc, reader);
+    let whole = joined(parts, tests)?;
+    let Pair(Pair(first, more), tests) = whole;
     Ok(Binders::new(place, first, more, tests))
 }
 

@@ -12,7 +12,7 @@ use crate::expression::{Binders, Expr};
 use crate::failure::Failure;
 use crate::group::{Grouped, read_repeated};
 use crate::keyword::{Index, Int, Maximise, Minimise, Post, Real, Satisfy, Set, Var};
-use crate::part::{Behind, Mark, Pair, Part, Within, joined};
+use crate::part::{Behind, Mark, Pair, Part, Within, gathered, joined};
 use crate::place::Place;
 use crate::reader::Reader;
 use crate::rule::{Rule, read_rule, read_rule_behind};
@@ -68,14 +68,12 @@ impl Part for Family {
     ghost steps = { λ f. family_then f.0 };
 
     fn read(alloc: Global, reader: &mut Reader<'_>) -> Result<Family, Failure> {
-        let mut sets = Items::new(alloc);
         if !reader.is(Terminal::OpenSquare) {
-            return Ok(Family(sets));
+            return Ok(Family(Items::new(alloc)));
         }
         let parts = FamilyParts::read(alloc, reader)?;
         let Within(Pair(first, more), _) = parts;
-        sets.push(first)?;
-        sets.append(more)?;
+        let sets = gathered(alloc, first, more)?;
         Ok(Family(sets))
     }
 }

@@ -64,18 +64,19 @@ read_binders-returns-in_err-parts t c =
     let p = err_from_is_err_and c.from_residual.result c.from_residual.ensures.1 in
     rw (p.1, p.2) (fault_at c.read.new.reader c.in_err-parts.field-0.0 (g.bind ∷ g.more_binds ∷ []) (g.tests ∷ []) l0 c.in_err-parts.ensures)
 
-pub read_binders-returns-in_err-tests : goal.read_binders-returns-in_err-tests
-read_binders-returns-in_err-tests t c =
+pub read_binders-returns-in_err-whole : goal.read_binders-returns-in_err-whole
+read_binders-returns-in_err-whole t c =
     let l0 = opened_rule c.args.reader.now 5 (g.bind ∷ g.more_binds ∷ g.tests ∷ []) c.place-place.result refl c.place-place.ensures (predict.binders_any (next c.args.reader.now)) in
     let l1 = after l0 (behind (g.tests ∷ []) c.in_ok-parts.ensures) in
-    let p = err_from_is_err_and c.from_residual-in_err-tests.result c.from_residual-in_err-tests.ensures.1 in
-    rw (p.1, p.2) (fault_at c.read_tests.new.reader c.in_err-tests.field-0.0 (g.tests ∷ []) ([]) l1 c.in_err-tests.ensures)
+    let p = err_from_is_err_and c.from_residual-in_err-whole.result c.from_residual-in_err-whole.ensures.1 in
+    rw (p.1, p.2) (fault_after c.read_tests-tests.new.reader c.in_err-whole.field-0.0 l1 (rw c.in_err-whole.ensures.err at c.read_tests-tests.ensures))
 
 pub read_binders-returns : goal.read_binders-returns
 read_binders-returns t c =
     let l0 = opened_rule c.args.reader.now 5 (g.bind ∷ g.more_binds ∷ g.tests ∷ []) c.place-place.result refl c.place-place.ensures (predict.binders_any (next c.args.reader.now)) in
-    let l1 = after l0 (behind (g.tests ∷ []) c.in_ok-parts.ensures) in
-    let l2 = after l1 c.in_ok-tests.ensures in
+    let q = c.in_ok-whole.ensures.ok in
+    let l1 = after l0 (behind (g.tests ∷ []) (rw (sym q.1) at c.in_ok-parts.ensures)) in
+    let l2 = after l1 (rw q.0 at c.read_tests-tests.ensures) in
     restep (binding_then (binding_of c.new.result)) (λ r. ap (λ x. binding_then x r) (sym c.new.ensures)) l2
 
 pub read_named-returns-in_err-name : goal.read_named-returns-in_err-name
@@ -84,18 +85,19 @@ read_named-returns-in_err-name t c =
     let p = err_from_is_err_and c.from_residual.result c.from_residual.ensures.1 in
     rw (p.1, p.2) (fault_at c.name.new.self c.in_err-name.field-0.0 (g.token_name ∷ []) (g.indices ∷ []) l0 c.in_err-name.ensures.read)
 
-pub read_named-returns-in_err-indices : goal.read_named-returns-in_err-indices
-read_named-returns-in_err-indices t c =
+pub read_named-returns-in_err-parts : goal.read_named-returns-in_err-parts
+read_named-returns-in_err-parts t c =
     let l0 = opened_rule c.args.reader.now 10 (g.token_name ∷ g.indices ∷ []) c.place-place.result refl c.place-place.ensures c.requires in
     let l1 = after l0 (behind (g.indices ∷ []) c.in_ok-name.ensures.read) in
-    let p = err_from_is_err_and c.from_residual-in_err-indices.result c.from_residual-in_err-indices.ensures.1 in
-    rw (p.1, p.2) (fault_at c.read_indices.new.reader c.in_err-indices.field-0.0 (g.indices ∷ []) ([]) l1 c.in_err-indices.ensures)
+    let p = err_from_is_err_and c.from_residual-in_err-parts.result c.from_residual-in_err-parts.ensures.1 in
+    rw (p.1, p.2) (fault_after c.read_indices-indices.new.reader c.in_err-parts.field-0.0 l1 (rw c.in_err-parts.ensures.err at c.read_indices-indices.ensures))
 
 pub read_named-returns : goal.read_named-returns
 read_named-returns t c =
     let l0 = opened_rule c.args.reader.now 10 (g.token_name ∷ g.indices ∷ []) c.place-place.result refl c.place-place.ensures c.requires in
-    let l1 = after l0 (behind (g.indices ∷ []) c.in_ok-name.ensures.read) in
-    let l2 = after l1 c.in_ok-indices.ensures in
+    let q = c.in_ok-parts.ensures.ok in
+    let l1 = after l0 (behind (g.indices ∷ []) (rw (sym q.1) at c.in_ok-name.ensures.read)) in
+    let l2 = after l1 (rw q.0 at c.read_indices-indices.ensures) in
     restep (operand_then (factor_of c.from_name.result)) (λ r. ap (λ x. operand_then x r) (sym c.from_name.ensures)) l2
 
 pub read_group-returns-in_err-inner : goal.read_group-returns-in_err-inner
@@ -104,18 +106,19 @@ read_group-returns-in_err-inner t c =
     let p = err_from_is_err_and c.from_residual.result c.from_residual.ensures.1 in
     rw (p.1, p.2) (fault_at c.read_bracketed.new.reader c.in_err-inner.field-0.0 (g.token_open_round ∷ g.expr ∷ []) (g.token_close_round ∷ []) l0 c.in_err-inner.ensures)
 
-pub read_group-returns-in_err-close : goal.read_group-returns-in_err-close
-read_group-returns-in_err-close t c =
+pub read_group-returns-in_err-parts : goal.read_group-returns-in_err-parts
+read_group-returns-in_err-parts t c =
     let l0 = opened_rule c.args.reader.now 10 (g.token_open_round ∷ g.expr ∷ g.token_close_round ∷ []) c.place-place.result refl c.place-place.ensures c.requires in
     let l1 = after l0 (behind (g.token_close_round ∷ []) c.in_ok-inner.ensures) in
-    let p = err_from_is_err_and c.from_residual-in_err-close.result c.from_residual-in_err-close.ensures.1 in
-    rw (p.1, p.2) (fault_at c.close.new.self c.in_err-close.field-0.0 (g.token_close_round ∷ []) ([]) l1 c.in_err-close.ensures.read)
+    let p = err_from_is_err_and c.from_residual-in_err-parts.result c.from_residual-in_err-parts.ensures.1 in
+    rw (p.1, p.2) (fault_after c.close-closed.new.self c.in_err-parts.field-0.0 l1 (rw c.in_err-parts.ensures.err at c.close-closed.ensures.read))
 
 pub read_group-returns : goal.read_group-returns
 read_group-returns t c =
     let l0 = opened_rule c.args.reader.now 10 (g.token_open_round ∷ g.expr ∷ g.token_close_round ∷ []) c.place-place.result refl c.place-place.ensures c.requires in
-    let l1 = after l0 (behind (g.token_close_round ∷ []) c.in_ok-inner.ensures) in
-    let l2 = after l1 c.in_ok-close.ensures.read in
+    let q = c.in_ok-parts.ensures.ok in
+    let l1 = after l0 (behind (g.token_close_round ∷ []) (rw (sym q.1) at c.in_ok-inner.ensures)) in
+    let l2 = after l1 (rw q.0 at c.close-closed.ensures.read) in
     restep (operand_then (factor_of c.from_group.result)) (λ r. ap (λ x. operand_then x r) (sym c.from_group.ensures)) l2
 
 pub read_bracketed-returns-in_err-open : goal.read_bracketed-returns-in_err-open
@@ -151,21 +154,22 @@ read_sum-returns-in_err-summand t c =
     let p = err_from_is_err_and c.from_residual-in_err-summand.result c.from_residual-in_err-summand.ensures.1 in
     rw (p.1, p.2) (fault_at c.read_bracketed.new.reader c.in_err-summand.field-0.0 (g.token_open_round ∷ g.expr ∷ []) (g.token_for ∷ g.binders ∷ g.token_close_round ∷ []) l1 c.in_err-summand.ensures)
 
-pub read_sum-returns-in_err-binders : goal.read_sum-returns-in_err-binders
-read_sum-returns-in_err-binders t c =
+pub read_sum-returns-in_err-parts : goal.read_sum-returns-in_err-parts
+read_sum-returns-in_err-parts t c =
     let l0 = opened_rule c.args.reader.now 10 (g.token_sum ∷ g.token_open_round ∷ g.expr ∷ g.token_for ∷ g.binders ∷ g.token_close_round ∷ []) c.place-place.result refl c.place-place.ensures c.requires in
     let l1 = after l0 (behind (g.token_open_round ∷ g.expr ∷ g.token_for ∷ g.binders ∷ g.token_close_round ∷ []) c.in_ok-expect.ensures.read) in
     let l2 = after l1 (behind (g.token_for ∷ g.binders ∷ g.token_close_round ∷ []) c.in_ok-summand.ensures) in
-    let p = err_from_is_err_and c.from_residual-in_err-binders.result c.from_residual-in_err-binders.ensures.1 in
-    rw (p.1, p.2) (fault_at c.read_scope.new.reader c.in_err-binders.field-0.0 (g.token_for ∷ g.binders ∷ g.token_close_round ∷ []) ([]) l2 c.in_err-binders.ensures)
+    let p = err_from_is_err_and c.from_residual-in_err-parts.result c.from_residual-in_err-parts.ensures.1 in
+    rw (p.1, p.2) (fault_after c.read_scope-binders.new.reader c.in_err-parts.field-0.0 l2 (rw c.in_err-parts.ensures.err at c.read_scope-binders.ensures))
 
 pub read_sum-returns : goal.read_sum-returns
 read_sum-returns t c =
     let l0 = opened_rule c.args.reader.now 10 (g.token_sum ∷ g.token_open_round ∷ g.expr ∷ g.token_for ∷ g.binders ∷ g.token_close_round ∷ []) c.place-place.result refl c.place-place.ensures c.requires in
     let l1 = after l0 (behind (g.token_open_round ∷ g.expr ∷ g.token_for ∷ g.binders ∷ g.token_close_round ∷ []) c.in_ok-expect.ensures.read) in
-    let l2 = after l1 (behind (g.token_for ∷ g.binders ∷ g.token_close_round ∷ []) c.in_ok-summand.ensures) in
-    let l3 = after l2 c.in_ok-binders.ensures in
-    restep (operand_then (factor_of c.from_sum.result)) (λ r. ap (λ x. operand_then x r) (sym (c.from_sum.ensures ∙ ap (λ x. plain.sum c.place-place.result (expression_of c.in_ok-summand.summand) (binding_of x)) c.in_ok-binders-2.ensures))) l3
+    let q = c.in_ok-parts.ensures.ok in
+    let l2 = after l1 (behind (g.token_for ∷ g.binders ∷ g.token_close_round ∷ []) (rw (sym q.1) at c.in_ok-summand.ensures)) in
+    let l3 = after l2 (rw q.0 at c.read_scope-binders.ensures) in
+    restep (operand_then (factor_of c.from_sum.result)) (λ r. ap (λ x. operand_then x r) (sym (c.from_sum.ensures ∙ ap (λ x. plain.sum c.place-place.result (expression_of c.in_ok-parts.parts.0) (binding_of x)) c.in_ok-binders.ensures))) l3
 
 pub read_scope-returns-in_err-expect : goal.read_scope-returns-in_err-expect
 read_scope-returns-in_err-expect t c =
@@ -180,21 +184,22 @@ read_scope-returns-in_err-binders t c =
     let p = err_from_is_err_and c.from_residual-in_err-binders.result c.from_residual-in_err-binders.ensures.1 in
     rw (p.1, p.2) (fault_at c.read_binders.new.reader c.in_err-binders.field-0.0 (g.binders ∷ []) (g.token_close_round ∷ []) l1 c.in_err-binders.ensures)
 
-pub read_scope-returns-in_err-close : goal.read_scope-returns-in_err-close
-read_scope-returns-in_err-close t c =
+pub read_scope-returns-in_err-parts : goal.read_scope-returns-in_err-parts
+read_scope-returns-in_err-parts t c =
     let l0 = stay (g.token_for ∷ g.binders ∷ g.token_close_round ∷ []) c.args.reader.now in
     let l1 = after l0 (behind (g.binders ∷ g.token_close_round ∷ []) c.in_ok-expect.ensures.read) in
     let l2 = after l1 (behind (g.token_close_round ∷ []) c.in_ok-binders.ensures) in
-    let p = err_from_is_err_and c.from_residual-in_err-close.result c.from_residual-in_err-close.ensures.1 in
-    rw (p.1, p.2) (fault_at c.close.new.self c.in_err-close.field-0.0 (g.token_close_round ∷ []) ([]) l2 c.in_err-close.ensures.read)
+    let p = err_from_is_err_and c.from_residual-in_err-parts.result c.from_residual-in_err-parts.ensures.1 in
+    rw (p.1, p.2) (fault_after c.close-closed.new.self c.in_err-parts.field-0.0 l2 (rw c.in_err-parts.ensures.err at c.close-closed.ensures.read))
 
 pub read_scope-returns : goal.read_scope-returns
 read_scope-returns t c =
     let l0 = stay (g.token_for ∷ g.binders ∷ g.token_close_round ∷ []) c.args.reader.now in
     let l1 = after l0 (behind (g.binders ∷ g.token_close_round ∷ []) c.in_ok-expect.ensures.read) in
-    let l2 = after l1 (behind (g.token_close_round ∷ []) c.in_ok-binders.ensures) in
-    let l3 = after l2 c.in_ok-close.ensures.read in
-    restep (binding_then (binding_of c.in_ok-binders.binders)) (λ r. refl) l3
+    let q = c.in_ok-parts.ensures.ok in
+    let l2 = after l1 (behind (g.token_close_round ∷ []) (rw (sym q.1) at c.in_ok-binders.ensures)) in
+    let l3 = after l2 (rw q.0 at c.close-closed.ensures.read) in
+    restep (binding_then (binding_of c.in_ok-parts.parts.0)) (λ r. refl) l3
 
 pub read_expr-returns-in_err-first : goal.read_expr-returns-in_err-first
 read_expr-returns-in_err-first t c =

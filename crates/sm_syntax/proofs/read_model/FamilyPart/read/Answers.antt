@@ -1,4 +1,4 @@
-use Rattle.std.proofs.Common.{◌≡◌, ◌∙◌, ap, sym, refl, ◌∷◌, [], ◌++◌}
+use Rattle.std.proofs.Common.{◌∙◌, ap, sym, refl, []}
 use Rattle.std.proofs.lemmas.Result.{err_from_is_err_and}
 use Rattle.sm_syntax.proofs.Readings.{restep, opened_group, group_reads, rule_fails}
 use Rattle.sm_syntax.proofs.Predictions as predict
@@ -6,7 +6,7 @@ use Rattle.sm_syntax.specs.TreeSteps.{family_then}
 use Rattle.sm_syntax.proofs.read_model.FamilyPart.read.Goals as goal
 
 pub returns-then-not-is : goal.returns-then-not-is
-returns-then-not-is c = restep (family_then c.new-sets.result) (λ r. ap (λ ns. family_then ns r) (sym c.new-sets.ensures)) (opened_group c.args.reader.now 25 [] refl (predict.family_none c.args.reader.now (sym c.is.ensures ∙ c.if-not-is.true)))
+returns-then-not-is c = restep (family_then c.new.result) (λ r. ap (λ ns. family_then ns r) (sym c.new.ensures)) (opened_group c.args.reader.now 25 [] refl (predict.family_none c.args.reader.now (sym c.is.ensures ∙ c.if-not-is.true)))
 
 pub returns-in_err-parts : goal.returns-in_err-parts
 returns-in_err-parts c =
@@ -15,5 +15,4 @@ returns-in_err-parts c =
 
 pub returns : goal.returns
 returns c =
-    let all : c.append.new.self ≡ c.in_ok-parts.parts.0.0 ∷ c.in_ok-parts.parts.0.1 = c.in_ok-append.ensures ∙ ap (λ ns. ns ++ c.in_ok-parts.parts.0.1) (c.in_ok-push.ensures.ok ∙ ap (λ ns. ns ++ c.in_ok-parts.parts.0.0 ∷ []) c.new-sets.ensures) in
-    restep (family_then c.append.new.self) (λ r. ap (λ ns. family_then ns r) (sym all)) (group_reads 25 refl (predict.family_some c.args.reader.now (sym c.is.ensures ∙ c.if-not-is.false)) c.in_ok-parts.ensures)
+    restep (family_then c.in_ok-sets.sets) (λ r. ap (λ ns. family_then ns r) (sym c.in_ok-sets.ensures)) (group_reads 25 refl (predict.family_some c.args.reader.now (sym c.is.ensures ∙ c.if-not-is.false)) c.in_ok-parts.ensures)

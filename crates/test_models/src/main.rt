@@ -59,7 +59,7 @@ impl Case {
 
     /// Makes the model of the parts.
     fn make(&mut self, answers: &mut Answers) -> Result<()> {
-        self.flat = self.draft.take_flat();
+        drop(std::mem::replace(&mut self.flat, self.draft.take_flat()));
         let answer: &[u8] = if self.flat.is_some() {
             b"model"
         } else {
@@ -88,7 +88,7 @@ impl Case {
         let mut words = Words::new(line);
         match words.word() {
             "case" => {
-                *self = Case::new(alloc);
+                drop(std::mem::replace(self, Case::new(alloc)));
                 answers.begin(words.take_rest())?;
             }
             "model" => self.make(answers)?,
@@ -106,24 +106,33 @@ impl Case {
     }
 }
 
-/// What the cases of a table answer.
-fn answers_of(alloc: Global, table: &str) -> Result<Answers> {
-    let mut answers = Answers::new(alloc);
-    let mut case = Case::new(alloc);
+/// Does what each entry of a table asks for.
+fn take_all(alloc: Global, case: &mut Case, table: &str, answers: &mut Answers) -> Result<()> {
     for line in table.lines() {
         if !line.is_empty() && !line.starts_with("  ") {
-            case.take(alloc, line, &mut answers)
+            case.take(alloc, line, answers)
                 .context(format_args!("at {line}"))?;
         }
     }
-    Ok(answers)
+    Ok(())
+}
+
+/// Adds what the cases of a table answer.
+fn answer_table(alloc: Global, bytes: &[u8], answers: &mut Answers) -> Result<()> {
+    let table = str::from_utf8(bytes).ok().context("a table is a text")?;
+    let mut case = Case::new(alloc);
+    let taken = take_all(alloc, &mut case, table, answers);
+    drop(case);
+    taken
 }
 
 fn main(rt: HostRuntime) -> Result<()> {
     for name in TABLES {
         let bytes = fs::read(&rt, name)?;
-        let table = str::from_utf8(&bytes).ok().context("a table is a text")?;
-        let answers = answers_of(rt.alloc(), table)?;
+        let mut answers = Answers::new(rt.alloc());
+        let taken = answer_table(rt.alloc(), &bytes, &mut answers);
+        drop(bytes);
+        taken?;
         io::writer(&rt).write_all(answers.text())?;
     }
     Ok(())

@@ -2,9 +2,9 @@
 use Rattle.std.specs.Prelude.{◌≡◌, ◌≢◌, ℕ, ◌+◌, ◌≤◌, ◌<◌, List, [], ◌∷◌, ℤ, pos, ◌+ℤ◌, ◌*ℤ◌, unsigned_abs, Option, Some, None, Result, Ok, Err}
 use Rattle.sm_kinds.specs.Sums.{sum_at}
 use Rattle.sm_forms.specs.Meanings.{Values, Meaning, greatest_value}
-use Rattle.sm_forms.specs.declared.Form.{Form}
-use Rattle.sm_forms.specs.declared.FormRefusal.{FormRefusal}
-use Rattle.sm_forms.specs.declared.FormRefusal.TheVariants.{TooLarge, OutOfMemory}
+use Rattle.sm_forms.specs.declared.form.Form.{Form}
+use Rattle.sm_forms.specs.declared.refusal.FormRefusal.{FormRefusal}
+use Rattle.sm_forms.specs.declared.refusal.FormRefusal.TheVariants.{TooLarge, OutOfMemory}
 
 -- what the form comes to, times the denominator
 abbrev pub value_at : Form → Values → ℤ
@@ -36,3 +36,8 @@ abbrev pub Comes : Option ℕ → (Form → Type 0) → Result Form FormRefusal 
 Comes large P (Ok f) = (large ≡ None) × P f
 Comes large P (Err (TooLarge found)) = large ≡ Some found
 Comes large P (Err OutOfMemory) = Unit {0}
+
+-- the first of the numbers that is too large, or want of memory
+abbrev pub IsRefused : Option ℕ → FormRefusal → Type 0
+IsRefused large (TooLarge found) = large ≡ Some found
+IsRefused large OutOfMemory = Unit {0}

@@ -1,0 +1,15 @@
+use Rattle.std.proofs.Common.{◌≡◌, ◌∙◌, ◌<◌, ◌+◌, ◌-◌, ap, sym, arith, length, nat_lt, true}
+use Rattle.std.proofs.lemmas.Bool.{OnTrue_from}
+use Rattle.std.proofs.lemmas.Grind.{common_steps}
+use Rattle.sm_forms.proofs.Merges.{no_term, starts_behind}
+use Rattle.sm_forms.proofs.merge.follows.Goals as goal
+
+pub returns-in-Some : goal.returns-in-Some
+returns-in-Some c = OnTrue_from _ _ (λ less n a b.
+    let some : 0 < length c.args.left.now = c.in-Some.ensures.item.3.0 in
+    let is = ap (λ t. t.0) (c.in-Some.ensures.item.3.1 no_term) in
+    let before : c.from.result < c.var_at.result = grind (arith, common_steps) in
+    starts_behind n _ _ (length c.args.left.now - 1) (omega arith) (λ h. omega (arith, before, c.from.ensures, is, c.var_at.ensures.var h)) a b)
+
+pub returns-in-None : goal.returns-in-None
+returns-in-None c = ?

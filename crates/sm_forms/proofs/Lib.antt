@@ -1,3 +1,4 @@
 pub mod Integers
 pub mod Coefficients
 pub mod Merges
+pub mod Values

@@ -1,8 +1,10 @@
 -- The steps of a merge.
-use Rattle.std.proofs.Common.{◌≡◌, ◌≢◌, ◌∙◌, ap, sym, refl, ℕ, zero, suc, arith, ℤ, pos, ◌<◌, ◌≤◌, ◌+◌, ◌^◌, ◌⊎◌, inl, inr, List, [], ◌∷◌, ◌++◌, length, drop, get_or, add-one, drop-cons, Some, None}
+use Rattle.std.proofs.Common.{◌≡◌, ◌≢◌, ◌∙◌, ap, sym, refl, ℕ, zero, suc, arith, ℤ, pos, ◌<◌, ◌≤◌, ◌+◌, ◌^◌, ◌⊎◌, inl, inr, List, [], ◌∷◌, ◌++◌, length, drop, get_or, add-one, drop-cons, subst, Result, IfOk, IfErr}
 use Rattle.std.specs.Prelude.{◌+ℤ◌, ◌-ℤ◌, ◌*ℤ◌, unsigned_abs}
 use Rattle.std.proofs.lemmas.Bool.{cases_lt}
 use Rattle.std.proofs.lemmas.Int.{ints}
+use Rattle.std.proofs.lemmas.Result.{IfOk-weaker, IfErr-weaker}
+use Rattle.std.proofs.Math.Path.{fun_ext}
 use Rattle.std.proofs.Math.Seq.{drop-length}
 use Rattle.std.proofs.Math.IntN.{*ℤ-zero, *ℤ_comm}
 use Rattle.sm_kinds.proofs.Multiples.{*ℤ_assoc, *ℤ-+ℤ, +ℤ-*ℤ}
@@ -137,8 +139,9 @@ starts_behind n left right k e lt a b = record {
   right_behind = behind n 0 (get_or left k no_term).0 right 0 (omega arith) lt b;
 }
 
-pub starts_empty : (n : ℕ) (left right : List (ℕ × ℤ)) → left ≡ [] → Rises n 0 left → Rises n 0 right → Starts n left [] right
-starts_empty n left right e a b = record { first = 0; in_range = omega arith; terms_rise = rw e tt; left_behind = tt; right_behind = b }
+pub starts_empty : (n : ℕ) (left right : List (ℕ × ℤ)) → length left ≡ 0 → Rises n 0 left → Rises n 0 right → Starts n left [] right
+starts_empty n [] right e a b = record { first = 0; in_range = omega arith; terms_rise = tt; left_behind = tt; right_behind = b }
+starts_empty n (t ∷ ts) right e a b = absurd (omega arith)
 
 pub starts_new : (n : ℕ) (left right : List (ℕ × ℤ)) → Rises n 0 left → Rises n 0 right → Starts n [] left right
 starts_new n left right a b = record { first = 0; in_range = omega arith; terms_rise = tt; left_behind = a; right_behind = b }
@@ -225,3 +228,32 @@ merges_stop n start left i by right j out next (TooLarge found) m moves large =
     here : coefficient g next.var ≡ next.coefficient
     here = let u = unit_same next.var next.var refl in let w = rw u at (grown next.var (omega arith)) in
         w ∙ omega (arith, ints, none_behind next.var 0 next.var out (omega arith) (wider m.first next.var 0 out h.at_least m.written))
+
+-- ---- where one of the lists is empty
+
+pub added_in_place : (left : List (ℕ × ℤ)) (by : ℤ) (right : List (ℕ × ℤ)) → added_to left [] by right ≡ terms_added left by right
+added_in_place left by right = fun_ext (λ a. zero_left (sum_at left a.numerator) (by *ℤ sum_at right a.numerator))
+  where
+    zero_left : (x y : ℤ) → x +ℤ (pos 0 +ℤ y) ≡ x +ℤ y
+    zero_left x y = omega (arith, ints)
+
+pub added_anew : (left : List (ℕ × ℤ)) (by : ℤ) (right : List (ℕ × ℤ)) → added_to [] left by right ≡ terms_added left by right
+added_anew left by right = fun_ext (λ a. zero_before (terms_added left by right a))
+  where
+    zero_before : (x : ℤ) → pos 0 +ℤ x ≡ x
+    zero_before x = omega (arith, ints)
+
+module _ {T : Type 0} (r : Result T FormRefusal) (left : List (ℕ × ℤ)) (by : ℤ) (right : List (ℕ × ℤ)) where
+  pub large_in_place : ((n : ℕ) → Rises n 0 left → Rises n 0 right → Starts n left [] right)
+      → IfErr r (λ e. (n : ℕ) → Starts n left [] right → IsRefused (coefficient_above greatest_value n (added_to left [] by right)) e)
+      → IfErr r (λ e. (n : ℕ) → Rises n 0 left → Rises n 0 right → IsRefused (coefficient_above greatest_value n (terms_added left by right)) e)
+  large_in_place s = IfErr-weaker r _ _ (λ e h n a b. subst (λ g. IsRefused (coefficient_above greatest_value n g) e) (added_in_place left by right) (h n (s n a b)))
+
+  pub large_anew : IfErr r (λ e. (n : ℕ) → Starts n [] left right → IsRefused (coefficient_above greatest_value n (added_to [] left by right)) e)
+      → IfErr r (λ e. (n : ℕ) → Rises n 0 left → Rises n 0 right → IsRefused (coefficient_above greatest_value n (terms_added left by right)) e)
+  large_anew = IfErr-weaker r _ _ (λ e h n a b. subst (λ g. IsRefused (coefficient_above greatest_value n g) e) (added_anew left by right) (h n (starts_new n left right a b)))
+
+pub total_anew : (r : Result (List (ℕ × ℤ)) FormRefusal) (left : List (ℕ × ℤ)) (by : ℤ) (right : List (ℕ × ℤ))
+    → IfOk r (λ v. (n : ℕ) → Starts n [] left right → (p : ℕ → ℤ) → sum_at v p ≡ pos 0 +ℤ (sum_at left p +ℤ (by *ℤ sum_at right p)))
+    → IfOk r (λ v. (n : ℕ) → Rises n 0 left → Rises n 0 right → (p : ℕ → ℤ) → sum_at v p ≡ sum_at left p +ℤ (by *ℤ sum_at right p))
+total_anew r left by right = IfOk-weaker r _ _ (λ v h n a b p. omega (arith, ints, h n (starts_new n left right a b) p))

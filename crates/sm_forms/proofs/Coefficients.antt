@@ -26,10 +26,10 @@ unit_same i j h = grind (arith, common_steps)
 pub unit_other : (i j : ℕ) → j ≢ i → (unit i).numerator j ≡ pos 0
 unit_other i j h = grind (arith, common_steps)
 
-here : (t : ℕ × ℤ) (ts : List (ℕ × ℤ)) (i : ℕ) → t.0 ≡ i → coefficient_in (t ∷ ts) i ≡ t.1
+pub here : (t : ℕ × ℤ) (ts : List (ℕ × ℤ)) (i : ℕ) → t.0 ≡ i → coefficient_in (t ∷ ts) i ≡ t.1
 here t ts i e = grind (arith, common_steps)
 
-there : (t : ℕ × ℤ) (ts : List (ℕ × ℤ)) (i : ℕ) → t.0 ≢ i → coefficient_in (t ∷ ts) i ≡ coefficient_in ts i
+pub there : (t : ℕ × ℤ) (ts : List (ℕ × ℤ)) (i : ℕ) → t.0 ≢ i → coefficient_in (t ∷ ts) i ≡ coefficient_in ts i
 there t ts i e = grind (arith, common_steps)
 
 -- a variable before all terms

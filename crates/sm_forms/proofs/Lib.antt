@@ -2,3 +2,4 @@ pub mod Integers
 pub mod Coefficients
 pub mod Merges
 pub mod Values
+pub mod Queries

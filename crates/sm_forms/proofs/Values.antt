@@ -1,7 +1,8 @@
 -- What forms come to, and the numbers of what they come to.
-use Rattle.std.proofs.Common.{◌≡◌, ◌∙◌, ap, ap₂, sym, refl, ℕ, arith, ℤ, pos, ◌≤◌, ◌^◌, List, Option, Some, None, Result, Ok, Err}
+use Rattle.std.proofs.Common.{◌≡◌, ◌∙◌, ap, ap₂, sym, refl, ℕ, arith, ℤ, pos, negsuc, ◌≤◌, ◌^◌, List, Option, Some, None, Result, Ok, Err}
 use Rattle.std.specs.Prelude.{◌+ℤ◌, ◌-ℤ◌, ◌*ℤ◌, unsigned_abs}
 use Rattle.std.proofs.lemmas.Int.{ints}
+use Rattle.std.proofs.Math.Path.{fun_ext}
 use Rattle.sm_kinds.proofs.Multiples.{*ℤ_assoc, *ℤ-+ℤ, +ℤ-*ℤ}
 use Rattle.sm_kinds.specs.Sums.{sum_at}
 use Rattle.sm_forms.specs.Meanings.{Values, Meaning, nowhere, unit, coefficient, constant_of, first, first_below, above, greatest_value, coefficient_above, large_value}
@@ -68,3 +69,15 @@ module _ (n : ℕ) (g h : Meaning) (left : Form) (by : ℤ) (right : Form) (p : 
     form = record { terms = rises; constant = small };
     comes_to = λ a. sums_are f.terms e a ∙ ap (λ x. sum_at f.terms a.numerator +ℤ (x *ℤ a.denominator)) (sym c);
   })
+
+pub once_more : (g h : Meaning) → sum_of g (pos 1) h ≡ (λ a. g a +ℤ h a)
+once_more g h = fun_ext (λ a. added (g a) (h a))
+  where
+    added : (x y : ℤ) → x +ℤ (pos 1 *ℤ y) ≡ x +ℤ y
+    added x y = omega (arith, ints)
+
+pub once_less : (g h : Meaning) → sum_of g (negsuc 0) h ≡ (λ a. g a -ℤ h a)
+once_less g h = fun_ext (λ a. taken (g a) (h a))
+  where
+    taken : (x y : ℤ) → x +ℤ (negsuc 0 *ℤ y) ≡ x -ℤ y
+    taken x y = omega (arith, ints)

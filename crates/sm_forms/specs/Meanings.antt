@@ -1,6 +1,6 @@
 -- What an expression means: a function of the values of the variables. Nothing here knows of terms; a coefficient is by
 -- how much the meaning grows with its variable.
-use Rattle.std.specs.Prelude.{ℕ, zero, suc, ◌^◌, ◌==◌, ℤ, pos, ◌+ℤ◌, ◌-ℤ◌, ◌*ℤ◌, ◌<ℤ◌, unsigned_abs, Bool, true, ◌&&◌, nat_lt, Option, Some, None, if◌then◌else◌}
+use Rattle.std.specs.Prelude.{ℕ, zero, suc, ◌^◌, ◌==◌, ℤ, pos, ◌+ℤ◌, ◌-ℤ◌, ◌*ℤ◌, ◌<ℤ◌, unsigned_abs, Bool, true, ◌&&◌, nat_lt, int_div, Option, Some, None, List, [], ◌∷◌, ◌++◌, if◌then◌else◌}
 use Rattle.std.specs.Ordering.{int_eq}
 
 -- the value of each variable, as a fraction over one denominator
@@ -75,3 +75,12 @@ is_only (suc k) i g = is_only k i g && int_eq (coefficient g k) (if k == i then 
 -- the single variable that it is: with the coefficient 1, without others and without a constant
 abbrev pub variable_of : ℕ → Meaning → Option ℕ
 variable_of n g = first_below n (λ i. if is_only n i g && int_eq (constant_of g) (pos 0) then Some i else None)
+
+-- the coefficients other than 0 of the n variables, in the order of variables
+abbrev pub terms_of : ℕ → Meaning → List (ℕ × ℤ)
+terms_of zero g = []
+terms_of (suc k) g = terms_of k g ++ (if int_eq (coefficient g k) (pos 0) then [] else (k, coefficient g k) ∷ [])
+
+-- the product of two values, times the denominator: exact where one of them is constant
+abbrev pub product_of : Meaning → Meaning → Meaning
+product_of x y a = int_div (x a *ℤ y a) a.denominator

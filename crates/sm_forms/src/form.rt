@@ -2,8 +2,10 @@
 ghost use Rattle.std.specs.Prelude.{◌≡◌, ℕ, ◌<◌, ◌≤◌, ◌*ℤ◌, ◌+ℤ◌, ◌-ℤ◌, true, unsigned_abs, IfOk, IfSome};
 ghost use Rattle.sm_forms.specs.Meanings.{Values, Meaning, greatest_value, large_value, constant_of, coefficient_above, is_constant, variable_of, terms_of};
 
-use crate::merge::{merged, sum_of};
-use crate::refusal::{FormRefusal, within};
+use crate::merge::merged;
+use crate::numbers::{product, sum_of, within};
+use crate::refusal::FormRefusal;
+use crate::scale::scaled;
 use sqlite_items::Items;
 use std::alloc::{AllocError, Global};
 
@@ -72,6 +74,21 @@ impl Form {
             Comes (large_value n (λ a. g a -ℤ h a)) (IsFormOf n (λ a. g a -ℤ h a)) result }
     {
         self.combined(alloc, -1, other)
+    }
+
+    /// by * self, in place. Times 0 it has no terms.
+    ///
+    /// # Errors
+    ///
+    /// `TooLarge` exactly where a number of the product is above 2^62 in absolute value.
+    pub fn scaled(self, by: i64) -> Result<Form, FormRefusal>
+        ensures { (n : ℕ) (g : Meaning) → IsFormOf n g self →
+            Comes (large_value n (λ a. by *ℤ g a)) (IsFormOf n (λ a. by *ℤ g a)) result }
+    {
+        let Form { terms, constant } = self;
+        let terms = scaled(terms, by)?;
+        let constant = within(product(by, constant))?;
+        Ok(Form { terms, constant })
     }
 
     /// Whether no variable matters.

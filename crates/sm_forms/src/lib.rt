@@ -3,7 +3,9 @@
 
 mod form;
 mod merge;
+mod numbers;
 mod refusal;
+mod scale;
 
 pub use form::Form;
 pub use refusal::FormRefusal;

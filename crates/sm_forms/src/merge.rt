@@ -6,7 +6,8 @@ ghost use Rattle.sm_forms.specs.Meanings.{above, coefficient_above, greatest_val
 ghost use Rattle.sm_forms.specs.Forms.{Rises, IsRefused};
 ghost use Rattle.sm_forms.specs.Merging.{Moves, Starts, terms_added, added_to};
 
-use crate::refusal::{FormRefusal, within};
+use crate::numbers::{product, sum_of, within};
+use crate::refusal::FormRefusal;
 use sqlite_items::Items;
 use std::alloc::Global;
 
@@ -17,13 +18,6 @@ struct Next {
     coefficient: i128,
     i: usize,
     j: usize,
-}
-
-/// left + by * right
-pub(crate) fn sum_of(left: i64, by: i64, right: i64) -> i128
-    ensures { result ≡ left +ℤ (by *ℤ right) }
-{
-    i128::from(left) + i128::from(by) * i128::from(right)
 }
 
 /// The variable of the term at i, and behind the last a number above all variables.
@@ -62,7 +56,7 @@ fn next_term(left: &[(u32, i64)], i: usize, by: i64, right: &[(u32, i64)], j: us
     if right_var < left_var {
         return Next {
             var: right[j].0,
-            coefficient: sum_of(0, by, right[j].1),
+            coefficient: product(by, right[j].1),
             i,
             j: j + 1,
         };

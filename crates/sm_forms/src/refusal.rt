@@ -1,8 +1,4 @@
-//! Why a form isn't made, and the limit on its numbers.
-ghost use Rattle.std.specs.Prelude.{◌≡◌, ◌≤◌, unsigned_abs, IfOk, IfErr};
-ghost use Rattle.sm_forms.specs.Meanings.{above, greatest_value};
-ghost use Rattle.sm_forms.specs.Forms.{IsRefused};
-
+//! Why a form isn't made.
 use std::alloc::AllocError;
 
 /// Why a form isn't made.
@@ -25,17 +21,4 @@ impl From<AllocError> for FormRefusal {
     fn from(_error: AllocError) -> FormRefusal {
         FormRefusal::OutOfMemory
     }
-}
-
-/// The number, if it is within 2^62.
-pub(crate) fn within(number: i128) -> Result<i64, FormRefusal>
-    ensures same { IfOk result (λ z. z ≡ number) }
-    ensures small { IfOk result (λ z. unsigned_abs z ≤ greatest_value) }
-    ensures large { IfErr result (IsRefused (above greatest_value number)) }
-{
-    let found = number.unsigned_abs();
-    if found > 1 << 62 {
-        return Err(FormRefusal::TooLarge { found });
-    }
-    Ok(number as i64)
 }

@@ -22,8 +22,7 @@ returns-then-right_var-left_var-clause-moves c = λ n from a b.
     let lt : c.args.j < length c.args.right.now = c.var_at-right_var.ensures.within.0 (omega (arith, c.if-right_var-left_var.true, c.var_at-left_var.ensures.most)) in
     let fits : FitsSigned w64 t.1 = search rules in
     let by_fits : FitsSigned w64 c.args.by = c.ranges.by in
-    let is : c.sum_of.result ≡ c.args.by *ℤ t.1 =
-    rw (to_z-of_z w64 c.args.by by_fits, to_z-of_z w64 t.1 fits) at c.sum_of.ensures ∙ omega (arith, ints) in
+    let is : c.product.result ≡ c.args.by *ℤ t.1 = rw (to_z-of_z w64 c.args.by by_fits, to_z-of_z w64 t.1 fits) at c.product.ensures in
     rw (is, to_z-of_z w128 (c.args.by *ℤ t.1) (product_fits c.args.by t.1 by_fits fits)) (take_right n from _ _ _ _ _ _ _ lt refl refl
     (behind n from t.0 _ _ c.requires.i_in (λ h. omega (arith, c.if-right_var-left_var.true, c.var_at-left_var.ensures.var h, c.var_at-right_var.ensures.var lt)) a) b)
 
@@ -40,7 +39,7 @@ returns-clause-moves c = λ n from a b.
     let x : FitsSigned w64 s.1 = search rules in
     let z : FitsSigned w64 t.1 = search rules in
     let y : FitsSigned w64 c.args.by = c.ranges.by in
-    let is : c.sum_of-2.result ≡ s.1 +ℤ (c.args.by *ℤ t.1) =
-    rw (to_z-of_z w64 s.1 x, to_z-of_z w64 c.args.by y, to_z-of_z w64 t.1 z) at c.sum_of-2.ensures in
+    let is : c.sum_of.result ≡ s.1 +ℤ (c.args.by *ℤ t.1) =
+    rw (to_z-of_z w64 s.1 x, to_z-of_z w64 c.args.by y, to_z-of_z w64 t.1 z) at c.sum_of.ensures in
     let other : s.0 ≡ t.0 = omega (arith, same, c.var_at-left_var.ensures.var li, c.var_at-right_var.ensures.var lj) in
     rw (is, to_z-of_z w128 _ (sum_fits s.1 c.args.by t.1 x y z)) (take_both n from _ _ _ _ _ _ _ li lj refl other refl a b)

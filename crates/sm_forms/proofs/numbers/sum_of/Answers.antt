@@ -3,7 +3,7 @@ use Rattle.std.specs.Int.{w128}
 use Rattle.std.proofs.Common.{w64}
 use Rattle.std.proofs.lemmas.Int.{to_z-of_z}
 use Rattle.sm_forms.proofs.Integers.{wide, product_fits, sum_fits}
-use Rattle.sm_forms.proofs.merge.sum_of.Goals as goal
+use Rattle.sm_forms.proofs.numbers.sum_of.Goals as goal
 
 pub overflow_add-result : goal.overflow_add-result
 overflow_add-result c =

@@ -3,3 +3,4 @@ pub mod Coefficients
 pub mod Merges
 pub mod Values
 pub mod Queries
+pub mod Scaling

@@ -57,7 +57,7 @@ abbrev pub first_in : (ℤ → Option ℕ) → List (ℕ × ℤ) → Option ℕ
 first_in φ [] = None
 first_in φ (t ∷ ts) = first (φ t.1) (first_in φ ts)
 
-first_none : (a b : Option ℕ) → first a b ≡ None → (a ≡ None) × (b ≡ None)
+pub first_none : (a b : Option ℕ) → first a b ≡ None → (a ≡ None) × (b ≡ None)
 first_none (Some y) b h = absurd (cc)
 first_none None b h = (refl, h)
 

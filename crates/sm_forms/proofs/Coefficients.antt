@@ -1,13 +1,13 @@
 -- The terms of a form are the coefficients of what it comes to.
-use Rattle.std.proofs.Common.{◌≡◌, ◌≢◌, ◌∙◌, ap, ap₂, sym, refl, ℕ, zero, suc, arith, ℤ, pos, negsuc, ◌<◌, ◌≤◌, ◌+◌, ◌^◌, ◌==◌, ◌⊎◌, inl, inr, List, [], ◌∷◌, ◌++◌, Bool, true, false, Option, Some, None, if◌then◌else◌}
-use Rattle.std.specs.Prelude.{◌+ℤ◌, ◌-ℤ◌, ◌*ℤ◌, ◌&&◌, unsigned_abs}
+use Rattle.std.proofs.Common.{◌≡◌, ◌≢◌, ◌∙◌, ap, ap₂, refl, ℕ, zero, suc, arith, ℤ, pos, ◌<◌, ◌≤◌, ◌+◌, ◌==◌, inl, inr, List, [], ◌∷◌, Option, Some, None, if◌then◌else◌}
+use Rattle.std.specs.Prelude.{unsigned_abs}
 use Rattle.std.proofs.lemmas.Int.{ints}
 use Rattle.std.proofs.lemmas.Bool.{cases_eq}
 use Rattle.std.proofs.lemmas.Grind.{common_steps}
 use Rattle.std.proofs.Math.IntN.{*ℤ-zero}
 use Rattle.sm_kinds.specs.Sums.{sum_at}
-use Rattle.sm_forms.specs.Meanings.{Values, Meaning, nowhere, unit, coefficient, first, first_below, above, greatest_value, coefficient_above}
-use Rattle.sm_forms.specs.Forms.{IsTerm, Rises}
+use Rattle.sm_forms.specs.Meanings.{Meaning, nowhere, unit, coefficient, first, first_below, above, greatest_value, coefficient_above}
+use Rattle.sm_forms.specs.Forms.{Rises}
 
 -- the coefficient of variable i
 abbrev pub coefficient_in : List (ℕ × ℤ) → ℕ → ℤ

@@ -1,9 +1,8 @@
 -- The range of sums and products of numbers in 64 bits.
-use Rattle.std.proofs.Common.{◌≡◌, ◌≤◌, ◌<◌, ◌+◌, ◌*◌, ◌^◌, refl, ℕ, zero, suc, ◌∙◌, ap, FitsSigned, arith, lit<, w64}
+use Rattle.std.proofs.Common.{◌≤◌, ◌+◌, ◌*◌, ◌^◌, ℕ, FitsSigned, arith, lit<, w64}
 use Rattle.std.specs.Int.{w128}
-use Rattle.std.specs.Prelude.{ℤ, pos, negsuc, ◌+ℤ◌, ◌*ℤ◌, neg_ℤ, unsigned_abs}
+use Rattle.std.specs.Prelude.{ℤ, pos, negsuc, ◌+ℤ◌, ◌*ℤ◌, unsigned_abs}
 use Rattle.std.proofs.lemmas.Int.{ints, fits_signed_mul, fits_signed_from_abs, unsigned_abs-mul}
-use Rattle.std.proofs.Math.IntN.{*ℤ_comm, *ℤ-zero, *ℤ-negsuc}
 use Rattle.std.proofs.Math.Nat.{mul-le-mul}
 
 abs_of : (z : ℤ) → FitsSigned w64 z → unsigned_abs z ≤ 2 ^ 63

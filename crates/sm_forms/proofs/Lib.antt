@@ -4,3 +4,5 @@ pub mod Merges
 pub mod Values
 pub mod Queries
 pub mod Scaling
+pub mod Products
+pub mod Uniqueness

@@ -1,12 +1,12 @@
 -- The steps of a merge.
-use Rattle.std.proofs.Common.{◌≡◌, ◌≢◌, ◌∙◌, ap, sym, refl, ℕ, zero, suc, arith, ℤ, pos, ◌<◌, ◌≤◌, ◌+◌, ◌^◌, ◌⊎◌, inl, inr, List, [], ◌∷◌, ◌++◌, length, drop, get_or, add-one, drop-cons, subst, Result, IfOk, IfErr}
-use Rattle.std.specs.Prelude.{◌+ℤ◌, ◌-ℤ◌, ◌*ℤ◌, unsigned_abs}
+use Rattle.std.proofs.Common.{◌≡◌, ◌≢◌, ◌∙◌, refl, ℕ, zero, suc, arith, ℤ, pos, ◌<◌, ◌≤◌, ◌+◌, inl, inr, List, [], ◌∷◌, ◌++◌, length, drop, get_or, add-one, drop-cons, subst, Result, IfOk, IfErr}
+use Rattle.std.specs.Prelude.{◌+ℤ◌, ◌*ℤ◌, unsigned_abs}
 use Rattle.std.proofs.lemmas.Bool.{cases_lt}
 use Rattle.std.proofs.lemmas.Int.{ints}
 use Rattle.std.proofs.lemmas.Result.{IfOk-weaker, IfErr-weaker}
 use Rattle.std.proofs.Math.Path.{fun_ext}
 use Rattle.std.proofs.Math.Seq.{drop-length}
-use Rattle.std.proofs.Math.IntN.{*ℤ-zero, *ℤ_comm}
+use Rattle.std.proofs.Math.IntN.{*ℤ-zero}
 use Rattle.sm_kinds.proofs.Multiples.{*ℤ_assoc, *ℤ-+ℤ, +ℤ-*ℤ}
 use Rattle.sm_kinds.specs.Sums.{sum_at}
 use Rattle.sm_forms.specs.Meanings.{Meaning, unit, nowhere, above, coefficient, coefficient_above, greatest_value}
@@ -15,7 +15,7 @@ use Rattle.sm_forms.specs.Merging.{Moves, Starts, terms_added, added_to, rest_at
 use Rattle.sm_forms.specs.declared.merge.Next.{Next}
 use Rattle.sm_forms.specs.declared.refusal.FormRefusal.{FormRefusal}
 use Rattle.sm_forms.specs.declared.refusal.FormRefusal.TheVariants.{TooLarge, OutOfMemory}
-use Rattle.sm_forms.proofs.Coefficients.{coefficient_in, unit_same, unit_other, sum_unit, sum_nowhere, none_before, none_behind, none_above, first_above}
+use Rattle.sm_forms.proofs.Coefficients.{coefficient_in, unit_same, unit_other, sum_unit, sum_nowhere, none_before, none_behind, first_above}
 
 abbrev pub no_term : ℕ × ℤ
 no_term = (0, pos 0)
@@ -105,18 +105,20 @@ wider m n from (t ∷ ts) le h = (record { at_least = h.0.at_least; below = omeg
 
 pub rises-push : (m from v : ℕ) (c : ℤ) (ts : List (ℕ × ℤ)) → from ≤ v → m ≤ v → c ≢ pos 0 → unsigned_abs c ≤ greatest_value → Rises m from ts → Rises (v + 1) from (ts ++ (v, c) ∷ [])
 rises-push m from v c [] f le ne small h = (record { at_least = f; below = omega arith; nonzero = ne; small = small }, tt)
-rises-push m from v c (t ∷ ts) f le ne small h =
-    (record { at_least = h.0.at_least; below = omega (arith, h.0.below); nonzero = h.0.nonzero; small = h.0.small },
-    rises-push m (t.0 + 1) v c ts (omega (arith, h.0.below)) le ne small h.1)
+rises-push m from v c (t ∷ ts) f le ne small h = (
+  record { at_least = h.0.at_least; below = omega (arith, h.0.below); nonzero = h.0.nonzero; small = h.0.small },
+  rises-push m (t.0 + 1) v c ts (omega (arith, h.0.below)) le ne small h.1,
+)
 
 -- a list rises up to its last variable
 pub up_to_last : (n from : ℕ) (ts : List (ℕ × ℤ)) (k : ℕ) → k + 1 ≡ length ts → Rises n from ts → Rises ((get_or ts k no_term).0 + 1) from ts
 up_to_last n from [] k e h = tt
 up_to_last n from (t ∷ []) zero e h = (record { at_least = h.0.at_least; below = omega arith; nonzero = h.0.nonzero; small = h.0.small }, tt)
 up_to_last n from (t ∷ u ∷ ts) zero e h = absurd (omega arith)
-up_to_last n from (t ∷ ts) (suc k) e h =
-    (record { at_least = h.0.at_least; below = omega (arith, last_behind n (t.0 + 1) ts k (omega arith) h.1); nonzero = h.0.nonzero; small = h.0.small },
-    up_to_last n (t.0 + 1) ts k (omega arith) h.1)
+up_to_last n from (t ∷ ts) (suc k) e h = (
+  record { at_least = h.0.at_least; below = omega (arith, last_behind n (t.0 + 1) ts k (omega arith) h.1); nonzero = h.0.nonzero; small = h.0.small },
+  up_to_last n (t.0 + 1) ts k (omega arith) h.1,
+)
   where
     last_behind : (n from : ℕ) (ts : List (ℕ × ℤ)) (k : ℕ) → k < length ts → Rises n from ts → from ≤ (get_or ts k no_term).0
     last_behind n from [] k lt h = absurd (omega arith)
@@ -214,17 +216,22 @@ merges_stop n start left i by right j out next (TooLarge found) m moves large =
   where
     h : Moves n m.first left i by right j next
     h = moves m.first m.left_behind m.right_behind
+
     g : Meaning
     g = added_to start left by right
+
     at : (p : ℕ → ℤ) → sum_at start p +ℤ rest_at left 0 by right 0 p ≡ sum_at out p +ℤ ((next.coefficient *ℤ p next.var) +ℤ rest_at left next.i by right next.j p)
     at p = omega (arith, ints, m.total p, h.total p)
+
     grown : (k : ℕ) → k < next.var + 1 → coefficient g k ≡ coefficient_in out k +ℤ (next.coefficient *ℤ (unit k).numerator next.var)
     grown k lt = grows g k (coefficient_in out k) next.coefficient ((unit k).numerator next.var) _ _ _ _
         (rw (sum_unit m.first 0 k out m.written) at (at (unit k).numerator)) (at nowhere.numerator)
         (rest_unit n (next.var + 1) k left next.i by right next.j lt h.left_behind h.right_behind)
         (sum_nowhere out) (*ℤ-zero next.coefficient) (rest_nowhere left next.i by right next.j)
+
     before : (k : ℕ) → k < next.var → coefficient g k ≡ coefficient_in out k
     before k lt = let u = unit_other k next.var (λ e. absurd (omega arith)) in let w = rw u at (grown k (omega arith)) in w ∙ omega (arith, ints, *ℤ-zero next.coefficient)
+
     here : coefficient g next.var ≡ next.coefficient
     here = let u = unit_same next.var next.var refl in let w = rw u at (grown next.var (omega arith)) in
         w ∙ omega (arith, ints, none_behind next.var 0 next.var out (omega arith) (wider m.first next.var 0 out h.at_least m.written))

@@ -1,13 +1,12 @@
 -- What is asked of a form is answered by its terms.
-use Rattle.std.proofs.Common.{◌≡◌, ◌≢◌, ◌∙◌, ap, ap₂, sym, refl, subst, ℕ, zero, suc, arith, ℤ, pos, negsuc, ◌<◌, ◌≤◌, ◌+◌, ◌==◌, ◌⊎◌, ◌↔◌, inl, inr, List, [], ◌∷◌, ◌++◌, length, drop, get_or, Bool, true, false, Option, Some, None, if◌then◌else◌}
-use Rattle.std.specs.Prelude.{◌+ℤ◌, ◌-ℤ◌, ◌*ℤ◌, ◌&&◌, unsigned_abs, IsTrue}
+use Rattle.std.proofs.Common.{◌≡◌, ◌≢◌, ◌∙◌, ap, ap₂, sym, refl, subst, ℕ, zero, suc, arith, ℤ, pos, ◌<◌, ◌≤◌, ◌+◌, ◌==◌, ◌⊎◌, ◌↔◌, inl, inr, List, [], ◌∷◌, ◌++◌, length, drop, get_or, Bool, true, false, Option, Some, None, if◌then◌else◌}
+use Rattle.std.specs.Prelude.{◌&&◌, unsigned_abs, IsTrue}
 use Rattle.std.specs.Ordering.{int_eq}
-use Rattle.std.proofs.lemmas.Int.{ints}
 use Rattle.std.proofs.lemmas.Bool.{cases_eq, and_parts}
 use Rattle.std.proofs.lemmas.Grind.{common_steps}
 use Rattle.std.proofs.Math.Seq.{drop-length}
-use Rattle.sm_forms.specs.Meanings.{Values, Meaning, coefficient, constant_of, first, first_below, above, coefficient_above, is_constant, is_only, variable_of, terms_of}
-use Rattle.sm_forms.specs.Forms.{IsTerm, Rises, IsFormOf, value_at}
+use Rattle.sm_forms.specs.Meanings.{Meaning, coefficient, constant_of, first, first_below, above, coefficient_above, is_constant, is_only, variable_of, terms_of}
+use Rattle.sm_forms.specs.Forms.{Rises, IsFormOf}
 use Rattle.sm_forms.specs.declared.form.Form.{Form}
 use Rattle.sm_forms.proofs.Coefficients.{coefficient_in, here, there, none_before, none_below, first_at, first_same}
 use Rattle.sm_forms.proofs.Merges.{no_term, drop_split}
@@ -21,13 +20,13 @@ constant_is n g f h = constants n g f.terms f.constant h.form.terms h.comes_to
 
 -- ---- whether it is constant
 
-int_eq-same : (z : ℤ) → int_eq z z ≡ true
+pub int_eq-same : (z : ℤ) → int_eq z z ≡ true
 int_eq-same z = grind (arith, common_steps)
 
 int_eq-other : (y z : ℤ) → y ≢ z → int_eq y z ≡ false
 int_eq-other y z h = grind (arith, common_steps)
 
-int_eq-is : (y z : ℤ) → int_eq y z ≡ true → y ≡ z
+pub int_eq-is : (y z : ℤ) → int_eq y z ≡ true → y ≡ z
 int_eq-is y z h = grind (arith, common_steps)
 
 and_false : (b : Bool) → (b && false) ≡ false
@@ -162,10 +161,12 @@ only_term n i (t ∷ ts) lt h is = by_case (cases_eq t.0 i)
   where
     at_i : t.0 ≡ i → t.1 ≡ pos 1
     at_i e = sym (here t ts i e) ∙ is i lt ∙ one_same i i refl
+
     no_more : t.0 ≡ i → (us : List (ℕ × ℤ)) → Rises n (t.0 + 1) us → us ≡ ts → us ≡ []
     no_more e [] a q = refl
     no_more e (u ∷ us) a q = absurd (a.0.nonzero (sym (here u us u.0 refl) ∙ ap (λ xs. coefficient_in xs u.0) q
         ∙ sym (there t ts u.0 (λ r. omega (arith, a.0.at_least))) ∙ is u.0 a.0.below ∙ one_other u.0 i (λ r. omega (arith, a.0.at_least))))
+
     by_case : (t.0 ≡ i) ⊎ (t.0 ≢ i) → t ∷ ts ≡ (i, pos 1) ∷ []
     by_case (inl e) = ap₂ (λ (x : ℕ × ℤ) xs. x ∷ xs) (ap₂ (λ (v : ℕ) (c : ℤ). (v, c)) e (at_i e)) (no_more e ts h.1 refl)
     by_case (inr ne) = absurd (h.0.nonzero (sym (here t ts t.0 refl) ∙ is t.0 h.0.below ∙ one_other t.0 i ne))
@@ -183,18 +184,25 @@ variable_some n v g f h e k = first_at n v test v (none_below v test before) at 
   where
     test : ℕ → Option ℕ
     test = λ i. if is_only n i g && int_eq (constant_of g) (pos 0) then Some i else None
+
     rises : Rises n 0 ((v, pos 1) ∷ [])
     rises = rw e at h.form.terms
+
     below : v < n
     below = rises.0.below
+
     coefficients_are : (j : ℕ) → coefficient g j ≡ (if j == v then pos 1 else pos 0)
     coefficients_are j = coefficients_of n g f h j ∙ ap (λ xs. coefficient_in xs j) e ∙ one_term v j
+
     constant_zero : int_eq (constant_of g) (pos 0) ≡ true
     constant_zero = let c = constant_is n g f h ∙ k in rw c refl
+
     at : test v ≡ Some v
     at = rw (is_only_where n v g (λ j lt. coefficients_are j), constant_zero) refl
+
     wrong : (i : ℕ) → i < v → is_only n i g ≢ true
     wrong i lt b = absurd (let q : pos 1 ≡ pos 0 = sym (one_same v v refl) ∙ sym (coefficients_are v) ∙ is_only_at n i v g b below ∙ one_other v i (λ r. omega arith) in cc)
+
     before : (i : ℕ) → i < v → test i ≡ None
     before i lt = by_bool (is_only n i g) refl
       where
@@ -207,6 +215,7 @@ variable_none n g f h other = none_below n test each
   where
     test : ℕ → Option ℕ
     test = λ i. if is_only n i g && int_eq (constant_of g) (pos 0) then Some i else None
+
     each : (i : ℕ) → i < n → test i ≡ None
     each i lt = by_bool (is_only n i g && int_eq (constant_of g) (pos 0)) refl
       where
@@ -237,6 +246,7 @@ grows n from (t ∷ ts) h = by_case (cases_eq t.0 n) (grows n (t.0 + 1) ts h.1)
     no_more : (us : List (ℕ × ℤ)) → Rises (suc n) (t.0 + 1) us → t.0 ≡ n → us ≡ []
     no_more [] a e = refl
     no_more (u ∷ us) a e = absurd (omega (arith, a.0.at_least, a.0.below))
+
     by_case : (t.0 ≡ n) ⊎ (t.0 ≢ n) → Grows n (t.0 + 1) ts → Grows n from (t ∷ ts)
     by_case (inl e) r =
         let c : coefficient_in (t ∷ ts) n ≡ t.1 = here t ts n e in

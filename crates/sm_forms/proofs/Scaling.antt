@@ -1,15 +1,14 @@
 -- A multiple of terms, made in place.
-use Rattle.std.proofs.Common.{◌≡◌, ◌≢◌, ◌∙◌, ap, ap₂, sym, refl, subst, ℕ, zero, suc, arith, ℤ, pos, negsuc, ◌<◌, ◌≤◌, ◌+◌, ◌*◌, List, [], ◌∷◌, length, drop, get_or, set, Option, Some, None, Result, Ok, Err}
+use Rattle.std.proofs.Common.{◌≡◌, ◌≢◌, ◌∙◌, ap, sym, refl, subst, ℕ, zero, suc, arith, ℤ, pos, negsuc, ◌<◌, ◌≤◌, ◌+◌, ◌*◌, List, [], ◌∷◌, length, drop, get_or, set, Option, None, Result, Ok, Err}
 use Rattle.std.specs.Prelude.{◌+ℤ◌, ◌*ℤ◌, unsigned_abs}
 use Rattle.std.proofs.lemmas.Int.{ints, unsigned_abs-mul}
 use Rattle.std.proofs.lemmas.Grind.{common_steps}
 use Rattle.std.proofs.Math.Path.{fun_ext}
-use Rattle.std.proofs.Math.Seq.{drop-length}
-use Rattle.std.proofs.Math.IntN.{*ℤ_comm, *ℤ-zero}
+use Rattle.std.proofs.Math.IntN.{*ℤ-zero}
 use Rattle.sm_kinds.proofs.Multiples.{*ℤ_assoc, *ℤ-+ℤ}
 use Rattle.sm_kinds.specs.Sums.{sum_at}
-use Rattle.sm_forms.specs.Meanings.{Values, Meaning, coefficient, first, first_below, above, greatest_value, coefficient_above, large_value}
-use Rattle.sm_forms.specs.Forms.{IsTerm, Rises, IsForm, IsFormOf, Comes, IsRefused}
+use Rattle.sm_forms.specs.Meanings.{Meaning, coefficient, first, above, greatest_value, coefficient_above, large_value}
+use Rattle.sm_forms.specs.Forms.{Rises, IsFormOf, Comes, IsRefused}
 use Rattle.sm_forms.specs.Merging.{terms_added}
 use Rattle.sm_forms.specs.declared.form.Form.{Form}
 use Rattle.sm_forms.specs.declared.refusal.FormRefusal.{FormRefusal}
@@ -77,9 +76,10 @@ above_scaled by z = above greatest_value (by *ℤ z)
 
 pub rises-all_scaled : (by : ℤ) (n from : ℕ) (ts : List (ℕ × ℤ)) → by ≢ pos 0 → first_in (above_scaled by) ts ≡ None → Rises n from ts → Rises n from (all_scaled by ts)
 rises-all_scaled by n from [] ne h a = tt
-rises-all_scaled by n from (t ∷ ts) ne h a = let p = first_none (above_scaled by t.1) (first_in (above_scaled by) ts) h in
-    (record { at_least = a.0.at_least; below = a.0.below; nonzero = λ z. a.0.nonzero (zero_product by t.1 ne z); small = small_of (by *ℤ t.1) p.0 },
-    rises-all_scaled by n (t.0 + 1) ts ne p.1 a.1)
+rises-all_scaled by n from (t ∷ ts) ne h a = let p = first_none (above_scaled by t.1) (first_in (above_scaled by) ts) h in (
+  record { at_least = a.0.at_least; below = a.0.below; nonzero = λ z. a.0.nonzero (zero_product by t.1 ne z); small = small_of (by *ℤ t.1) p.0 },
+  rises-all_scaled by n (t.0 + 1) ts ne p.1 a.1,
+)
 
 -- ---- the first coefficient that is too large
 

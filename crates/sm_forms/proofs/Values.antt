@@ -1,12 +1,12 @@
 -- What forms come to, and the numbers of what they come to.
-use Rattle.std.proofs.Common.{◌≡◌, ◌∙◌, ap, ap₂, sym, refl, ℕ, arith, ℤ, pos, negsuc, ◌≤◌, ◌^◌, List, Option, Some, None, Result, Ok, Err}
+use Rattle.std.proofs.Common.{◌≡◌, ◌∙◌, ap, ap₂, sym, ℕ, arith, ℤ, pos, negsuc, ◌≤◌, List, None, Ok, Err}
 use Rattle.std.specs.Prelude.{◌+ℤ◌, ◌-ℤ◌, ◌*ℤ◌, unsigned_abs}
 use Rattle.std.proofs.lemmas.Int.{ints}
 use Rattle.std.proofs.Math.Path.{fun_ext}
 use Rattle.sm_kinds.proofs.Multiples.{*ℤ_assoc, *ℤ-+ℤ, +ℤ-*ℤ}
 use Rattle.sm_kinds.specs.Sums.{sum_at}
-use Rattle.sm_forms.specs.Meanings.{Values, Meaning, nowhere, unit, coefficient, constant_of, first, first_below, above, greatest_value, coefficient_above, large_value}
-use Rattle.sm_forms.specs.Forms.{Rises, IsForm, IsFormOf, value_at, Comes, IsRefused}
+use Rattle.sm_forms.specs.Meanings.{Values, Meaning, nowhere, unit, coefficient, constant_of, first, above, greatest_value, coefficient_above, large_value}
+use Rattle.sm_forms.specs.Forms.{Rises, IsFormOf, Comes, IsRefused}
 use Rattle.sm_forms.specs.Merging.{terms_added}
 use Rattle.sm_forms.specs.declared.form.Form.{Form}
 use Rattle.sm_forms.specs.declared.refusal.FormRefusal.{FormRefusal}

@@ -6,9 +6,7 @@ use std::alloc::AllocError;
 pub enum FormRefusal {
     /// A number would be above 2^62 in absolute value; the first such, coefficients in the order of variables before the
     /// constant.
-    TooLarge {
-        found: u128,
-    },
+    TooLarge { found: u128 },
     OutOfMemory,
 }
 

@@ -1,8 +1,8 @@
-use Rattle.std.proofs.Common.{rules, ◌≡◌, ◌<◌, ◌∙◌, refl, FitsSigned, arith, slice_index_or, length, w64, ◌⊎◌, inl, inr}
+use Rattle.std.proofs.Common.{rules, ◌≡◌, ◌<◌, ◌∙◌, refl, FitsSigned, arith, slice_index_or, length, w64, inl, inr}
 use Rattle.std.specs.Int.{w128}
-use Rattle.std.specs.Prelude.{pos, ◌+ℤ◌, ◌*ℤ◌}
+use Rattle.std.specs.Prelude.{◌+ℤ◌, ◌*ℤ◌}
 use Rattle.std.proofs.lemmas.Bool.{cases_lt}
-use Rattle.std.proofs.lemmas.Int.{ints, to_z-of_z}
+use Rattle.std.proofs.lemmas.Int.{to_z-of_z}
 use Rattle.sm_forms.proofs.Integers.{wide, product_fits, sum_fits}
 use Rattle.sm_forms.proofs.Merges.{no_term, behind, take_left, take_right, take_both}
 use Rattle.sm_forms.proofs.merge.next_term.Goals as goal

@@ -1,4 +1,4 @@
-use Rattle.std.proofs.Common.{rules, ◌≡◌, ◌≢◌, ◌∙◌, ◌<◌, ◌+◌, ap, sym, subst, arith, length, add-one, ℕ, ℤ, List, None, get_or, set, slice_index_or, w64, FitsSigned}
+use Rattle.std.proofs.Common.{rules, ◌≡◌, ◌∙◌, ◌<◌, ap, sym, subst, arith, length, add-one, ℕ, ℤ, List, None, get_or, set, slice_index_or, w64, FitsSigned}
 use Rattle.std.specs.Int.{w128}
 use Rattle.std.specs.Prelude.{◌*ℤ◌}
 use Rattle.std.proofs.lemmas.Int.{to_z-of_z}
@@ -8,8 +8,7 @@ use Rattle.sm_kinds.specs.Sums.{sum_at}
 use Rattle.sm_forms.specs.Forms.{Rises}
 use Rattle.sm_forms.proofs.Coefficients.{small_is_none}
 use Rattle.sm_forms.proofs.Merges.{no_term}
-use Rattle.sm_forms.proofs.Queries.{first_in}
-use Rattle.sm_forms.proofs.Scaling.{above_scaled, length-part_scaled, get_or-part_scaled, set-part_scaled, part_scaled-all, all_scaled, sum_at-all_scaled, rises-all_scaled, scaling_stops, scaling_goes_on}
+use Rattle.sm_forms.proofs.Scaling.{above_scaled, length-part_scaled, get_or-part_scaled, set-part_scaled, part_scaled-all, sum_at-all_scaled, rises-all_scaled, scaling_stops, scaling_goes_on}
 use Rattle.sm_forms.proofs.scale.scaled.Goals as goal
 
 pub bounds-as_slice-i : goal.bounds-as_slice-i

@@ -1,4 +1,4 @@
-use Rattle.std.proofs.Common.{◌≡◌, ◌≢◌, ◌≤◌, pos, drop, length}
+use Rattle.std.proofs.Common.{◌≡◌, ◌≢◌, pos, drop, length}
 use Rattle.sm_forms.proofs.Queries.{first_in}
 use Rattle.sm_forms.proofs.Scaling.{part_scaled, above_scaled}
 use Rattle.sm_forms.proofs.scale.scaled.Given as goal

@@ -1,4 +1,4 @@
-use Rattle.std.proofs.Common.{rules, ◌≡◌, ◌∙◌, ap, w64, FitsSigned}
+use Rattle.std.proofs.Common.{rules, ◌≡◌, ◌∙◌, w64, FitsSigned}
 use Rattle.std.specs.Int.{w128}
 use Rattle.std.specs.Prelude.{◌+ℤ◌, ◌*ℤ◌}
 use Rattle.std.proofs.lemmas.Int.{to_z-of_z}
@@ -26,9 +26,9 @@ returns-in_err-constant c =
     rw (to_z-of_z w64 c.args.self.constant left, b, to_z-of_z w64 c.args.other.constant right) at c.sum_of.ensures in
     let large = rw (to_z-of_z w128 c.sum_of.result whole, sum) at c.in_err-constant.ensures.large in
     rw (p.1, p.2) (λ n g h x y.
-        let rises = rises n x.form.terms y.form.terms in
-        let total = total n x.form.terms y.form.terms in
-        constant_comes n (sum_of g c.args.by h) c.in_ok-terms.terms _ rises (sums_are n g h c.args.self c.args.by c.args.other x y c.in_ok-terms.terms total) _ large)
+    let rises = rises n x.form.terms y.form.terms in
+    let total = total n x.form.terms y.form.terms in
+    constant_comes n (sum_of g c.args.by h) c.in_ok-terms.terms _ rises (sums_are n g h c.args.self c.args.by c.args.other x y c.in_ok-terms.terms total) _ large)
 
 pub returns : goal.returns
 returns c =
@@ -42,7 +42,7 @@ returns c =
     let sum : c.sum_of.result ≡ c.args.self.constant +ℤ (c.args.by *ℤ c.args.other.constant) =
     rw (to_z-of_z w64 c.args.self.constant left, b, to_z-of_z w64 c.args.other.constant right) at c.sum_of.ensures in
     rw (to_z-of_z w64 c.in_ok-constant.constant constant) (λ n g h x y.
-        let rises = rises n x.form.terms y.form.terms in
-        let total = total n x.form.terms y.form.terms in
-        sum_comes n g h c.args.self c.args.by c.args.other x y (record { terms = c.in_ok-terms.terms; constant = c.in_ok-constant.constant })
-        rises total (c.in_ok-constant.ensures.same ∙ to_z-of_z w128 c.sum_of.result whole ∙ sum) c.in_ok-constant.ensures.small)
+    let rises = rises n x.form.terms y.form.terms in
+    let total = total n x.form.terms y.form.terms in
+    sum_comes n g h c.args.self c.args.by c.args.other x y (record { terms = c.in_ok-terms.terms; constant = c.in_ok-constant.constant })
+    rises total (c.in_ok-constant.ensures.same ∙ to_z-of_z w128 c.sum_of.result whole ∙ sum) c.in_ok-constant.ensures.small)

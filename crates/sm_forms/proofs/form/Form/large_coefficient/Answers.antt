@@ -1,7 +1,5 @@
-use Rattle.std.proofs.Common.{rules, ◌≡◌, ◌∙◌, arith, w64, FitsSigned, slice_index_or, length, Some, drop}
+use Rattle.std.proofs.Common.{rules, arith, w64, FitsSigned, slice_index_or}
 use Rattle.std.proofs.lemmas.Int.{to_z-of_z}
-use Rattle.std.proofs.lemmas.Grind.{common_steps}
-use Rattle.sm_forms.specs.Meanings.{above}
 use Rattle.sm_forms.proofs.Merges.{no_term}
 use Rattle.sm_forms.proofs.Queries.{above_is, found_first, none_found}
 use Rattle.sm_forms.proofs.form.Form.large_coefficient.Goals as goal

@@ -1,10 +1,8 @@
-use Rattle.std.proofs.Common.{rules, ◌≡◌, ◌∙◌, ap, sym, subst, w64, FitsSigned}
+use Rattle.std.proofs.Common.{rules, ◌≡◌, ◌∙◌, w64, FitsSigned}
 use Rattle.std.specs.Int.{w128}
-use Rattle.std.specs.Prelude.{pos, ◌+ℤ◌, ◌*ℤ◌}
+use Rattle.std.specs.Prelude.{◌*ℤ◌}
 use Rattle.std.proofs.lemmas.Int.{to_z-of_z}
 use Rattle.std.proofs.lemmas.Result.{err_from_is_err_and}
-use Rattle.sm_forms.specs.Meanings.{Meaning, large_value}
-use Rattle.sm_forms.specs.Forms.{IsFormOf, Comes}
 use Rattle.sm_forms.proofs.Scaling.{scaled_comes, scaled_terms_come, scaled_constant_comes}
 use Rattle.sm_forms.proofs.form.Form.scaled.Goals as goal
 
@@ -37,5 +35,5 @@ returns c =
     let rises = c.in_ok-terms.ensures.rises in
     let total = rw b at c.in_ok-terms.ensures.total in
     rw (to_z-of_z w64 c.in_ok-constant.constant constant) (λ n g x.
-        scaled_comes n g c.args.self c.args.by x (record { terms = c.in_ok-terms.terms; constant = c.in_ok-constant.constant })
-        (rises n x.form.terms) total (c.in_ok-constant.ensures.same ∙ to_z-of_z w128 c.product.result whole ∙ is) c.in_ok-constant.ensures.small)
+    scaled_comes n g c.args.self c.args.by x (record { terms = c.in_ok-terms.terms; constant = c.in_ok-constant.constant })
+    (rises n x.form.terms) total (c.in_ok-constant.ensures.same ∙ to_z-of_z w128 c.product.result whole ∙ is) c.in_ok-constant.ensures.small)

@@ -1,4 +1,4 @@
-use Rattle.std.proofs.Common.{rules, ◌≡◌, ◌≢◌, ◌∙◌, ap, sym, arith, length, [], ◌∷◌, ℕ, pos, slice_index_or}
+use Rattle.std.proofs.Common.{rules, ◌≡◌, ◌≢◌, ◌∙◌, ap, sym, arith, length, pos, slice_index_or}
 use Rattle.sm_forms.proofs.Merges.{no_term}
 use Rattle.sm_forms.proofs.Queries.{one_term_of, variable_some, variable_none}
 use Rattle.sm_forms.proofs.form.Form.single.Goals.{then-len-ne1-via-then-len-ne1, then-len-ne1-via-else-len-ne1+then-self-ne0}

@@ -73,6 +73,7 @@ module _ (n from : ℕ) (left : List (ℕ × ℤ)) (i : ℕ) (by : ℤ) (right :
         right_behind = rw ev p.1;
       }
 
+  -- both lists begin with the same variable, so their first terms go into one, and both rests lie behind it
   pub take_both : i < length left → j < length right → v ≡ (get_or left i no_term).0 → v ≡ (get_or right j no_term).0
       → c ≡ (get_or left i no_term).1 +ℤ (by *ℤ (get_or right j no_term).1)
       → Rises n from (drop i left) → Rises n from (drop j right)

@@ -80,6 +80,7 @@ module _ (φ : ℤ → Option ℕ) (passes : φ (pos 0) ≡ None) where
     is : φ (coefficient_in ts k) ≡ Some x
     none : (i : ℕ) → i < k → φ (coefficient_in ts i) ≡ None
 
+  -- by induction: it stands at the first term, or among the rest, whose variables come later
   some_in : (n from : ℕ) (ts : List (ℕ × ℤ)) (x : ℕ) → Rises n from ts → first_in φ ts ≡ Some x → StandsAt n from ts x
   some_in n from [] x a h = absurd (cc)
   some_in n from (t ∷ ts) x a h = elim (first_some (φ t.1) (first_in φ ts) x h) [

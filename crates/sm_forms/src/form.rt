@@ -1,5 +1,5 @@
 //! Linear forms.
-ghost use Rattle.std.specs.Prelude.{◌≡◌, ℕ, ◌<◌, ◌≤◌, ◌*ℤ◌, ◌+ℤ◌, ◌-ℤ◌, true, unsigned_abs, IfOk, IfSome};
+ghost use Rattle.std.specs.Prelude.{◌≡◌, ◌≢◌, ℕ, ◌<◌, ◌≤◌, ◌*ℤ◌, ◌+ℤ◌, ◌-ℤ◌, true, unsigned_abs, IfOk, IfErr, IfSome};
 ghost use Rattle.sm_forms.specs.Meanings.{Values, Meaning, greatest_value, large_value, constant_of, coefficient_above, is_constant, variable_of, terms_of};
 
 use crate::merge::merged;
@@ -14,11 +14,13 @@ use std::alloc::{AllocError, Global};
 pub struct Form {
     /// Variables by number with their coefficients, in increasing order of variable; no coefficient is 0.
     pub terms: Items<(u32, i64)>,
+    /// What it is where every variable is 0.
     pub constant: i64,
 }
 
 impl Form {
     ghost use Rattle.sm_forms.specs.Forms.{IsFormOf, Comes};
+    ghost use Rattle.sm_forms.specs.declared.refusal.FormRefusal.TheVariants.{OutOfMemory};
 
     /// A number.
     pub fn number(alloc: Global, number: i64) -> Form
@@ -56,7 +58,8 @@ impl Form {
     ///
     /// # Errors
     ///
-    /// `TooLarge` exactly where a number of the sum is above 2^62 in absolute value, and `OutOfMemory`.
+    /// While memory lasts, `TooLarge` exactly where a number of the sum is above 2^62 in absolute value; else
+    /// `OutOfMemory`.
     pub fn plus(self, alloc: Global, other: Form) -> Result<Form, FormRefusal>
         ensures { (n : ℕ) (g h : Meaning) → IsFormOf n g self → IsFormOf n h other →
             Comes (large_value n (λ a. g a +ℤ h a)) (IsFormOf n (λ a. g a +ℤ h a)) result }
@@ -68,7 +71,8 @@ impl Form {
     ///
     /// # Errors
     ///
-    /// `TooLarge` exactly where a number of the difference is above 2^62 in absolute value, and `OutOfMemory`.
+    /// While memory lasts, `TooLarge` exactly where a number of the difference is above 2^62 in absolute value; else
+    /// `OutOfMemory`.
     pub fn minus(self, alloc: Global, other: Form) -> Result<Form, FormRefusal>
         ensures { (n : ℕ) (g h : Meaning) → IsFormOf n g self → IsFormOf n h other →
             Comes (large_value n (λ a. g a -ℤ h a)) (IsFormOf n (λ a. g a -ℤ h a)) result }
@@ -80,10 +84,11 @@ impl Form {
     ///
     /// # Errors
     ///
-    /// `TooLarge` exactly where a number of the product is above 2^62 in absolute value.
+    /// `TooLarge` exactly where a number of the product is above 2^62 in absolute value, and no other.
     pub fn scaled(self, by: i64) -> Result<Form, FormRefusal>
-        ensures { (n : ℕ) (g : Meaning) → IsFormOf n g self →
+        ensures comes { (n : ℕ) (g : Meaning) → IsFormOf n g self →
             Comes (large_value n (λ a. by *ℤ g a)) (IsFormOf n (λ a. by *ℤ g a)) result }
+        ensures memory { IfErr result (λ e. e ≢ OutOfMemory) }
     {
         let Form { terms, constant } = self;
         let terms = scaled(terms, by)?;

@@ -1,7 +1,8 @@
 //! Numbers of a form, in the width that a sum of a number and a product takes, and their limit.
-ghost use Rattle.std.specs.Prelude.{◌≡◌, ◌≤◌, ◌+ℤ◌, ◌*ℤ◌, unsigned_abs, IfOk, IfErr};
+ghost use Rattle.std.specs.Prelude.{◌≡◌, ◌≢◌, ◌≤◌, ◌+ℤ◌, ◌*ℤ◌, unsigned_abs, IfOk, IfErr};
 ghost use Rattle.sm_forms.specs.Meanings.{above, greatest_value};
 ghost use Rattle.sm_forms.specs.Forms.{IsRefused};
+ghost use Rattle.sm_forms.specs.declared.refusal.FormRefusal.TheVariants.{OutOfMemory};
 
 use crate::refusal::FormRefusal;
 
@@ -24,6 +25,7 @@ pub(crate) fn within(number: i128) -> Result<i64, FormRefusal>
     ensures same { IfOk result (λ z. z ≡ number) }
     ensures small { IfOk result (λ z. unsigned_abs z ≤ greatest_value) }
     ensures large { IfErr result (IsRefused (above greatest_value number)) }
+    ensures memory { IfErr result (λ e. e ≢ OutOfMemory) }
 {
     let found = number.unsigned_abs();
     if found > 1 << 62 {

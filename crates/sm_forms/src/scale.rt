@@ -1,9 +1,10 @@
 //! The terms of a multiple.
-ghost use Rattle.std.specs.Prelude.{◌≡◌, ℕ, ℤ, ◌*ℤ◌, [], IfOk, IfErr};
+ghost use Rattle.std.specs.Prelude.{◌≡◌, ◌≢◌, ℕ, ℤ, ◌*ℤ◌, [], IfOk, IfErr};
 ghost use Rattle.sm_kinds.specs.Sums.{sum_at};
 ghost use Rattle.sm_forms.specs.Meanings.{coefficient_above, greatest_value};
 ghost use Rattle.sm_forms.specs.Forms.{Rises, IsRefused};
 ghost use Rattle.sm_forms.specs.Merging.{terms_added};
+ghost use Rattle.sm_forms.specs.declared.refusal.FormRefusal.TheVariants.{OutOfMemory};
 
 use crate::numbers::{product, within};
 use crate::refusal::FormRefusal;
@@ -26,6 +27,7 @@ pub(crate) fn scaled(
     ensures total { IfOk result (λ v. (p : ℕ → ℤ) → sum_at v p ≡ by *ℤ sum_at terms p) }
     ensures large { IfErr result (λ e. (n : ℕ) → Rises n 0 terms →
         IsRefused (coefficient_above greatest_value n (terms_added [] by terms)) e) }
+    ensures memory { IfErr result (λ e. e ≢ OutOfMemory) }
 {
     if by == 0 {
         return Ok(emptied(terms));

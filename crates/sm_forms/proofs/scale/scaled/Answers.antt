@@ -41,6 +41,7 @@ returns-in_err-within-clause-large c =
     let large = rw (to_z-of_z w128 c.product.result whole, is) at c.in_err-within.ensures.large in
     rw (p.1, p.2) (λ n a. scaling_stops c.args.by i ts _ n (omega (arith, c.loop-i-test.true, c.loop-i.invariant.ends)) (rw b at c.loop-i.invariant.kept) large a)
 
+-- the term that is read is still the one of the start, and what is written in its place is its multiple, which isn't too large
 pub loop-i-preserved : goal.loop-i-preserved
 loop-i-preserved c =
     let ts = c.args.terms in

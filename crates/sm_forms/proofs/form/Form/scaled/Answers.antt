@@ -6,15 +6,15 @@ use Rattle.std.proofs.lemmas.Result.{err_from_is_err_and}
 use Rattle.sm_forms.proofs.Scaling.{scaled_comes, scaled_terms_come, scaled_constant_comes}
 use Rattle.sm_forms.proofs.form.Form.scaled.Goals as goal
 
-pub returns-in_err-terms : goal.returns-in_err-terms
-returns-in_err-terms c =
+pub returns-in_err-terms-clause-comes : goal.returns-in_err-terms-clause-comes
+returns-in_err-terms-clause-comes c =
     let p = err_from_is_err_and c.from_residual.result c.from_residual.ensures.1 in
     let b = to_z-of_z w64 c.args.by c.ranges.by in
     let large = rw b at c.in_err-terms.ensures.large in
     rw (p.1, p.2) (λ n g x. scaled_terms_come n g c.args.self c.args.by x _ (large n x.form.terms))
 
-pub returns-in_err-constant : goal.returns-in_err-constant
-returns-in_err-constant c =
+pub returns-in_err-constant-clause-comes : goal.returns-in_err-constant-clause-comes
+returns-in_err-constant-clause-comes c =
     let p = err_from_is_err_and c.from_residual-in_err-constant.result c.from_residual-in_err-constant.ensures.1 in
     let b = to_z-of_z w64 c.args.by c.ranges.by in
     let fits : FitsSigned w64 c.args.self.constant = search rules in
@@ -25,8 +25,8 @@ returns-in_err-constant c =
     let total = rw b at c.in_ok-terms.ensures.total in
     rw (p.1, p.2) (λ n g x. scaled_constant_comes n g c.args.self c.args.by x c.in_ok-terms.terms (rises n x.form.terms) total _ large)
 
-pub returns : goal.returns
-returns c =
+pub returns-clause-comes : goal.returns-clause-comes
+returns-clause-comes c =
     let b = to_z-of_z w64 c.args.by c.ranges.by in
     let fits : FitsSigned w64 c.args.self.constant = search rules in
     let constant : FitsSigned w64 c.in_ok-constant.constant = search rules in

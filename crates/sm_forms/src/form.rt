@@ -109,7 +109,8 @@ impl Form {
     pub fn single(&self) -> Option<u32>
         ensures same { (n : ℕ) (g : Meaning) → IsFormOf n g self.now → result ≡ variable_of n g }
         ensures below { IfSome result (λ v. (n : ℕ) (g : Meaning) → IsFormOf n g self.now → v < n) }
-        ensures value { IfSome result (λ v. (n : ℕ) (g : Meaning) → IsFormOf n g self.now → (a : Values) → g a ≡ a.numerator v) }
+        ensures value { IfSome result (λ v. (n : ℕ) (g : Meaning) → IsFormOf n g self.now →
+            (a : Values) → g a ≡ a.numerator v) }
     {
         if self.terms.len() != 1 || self.constant != 0 {
             return None;

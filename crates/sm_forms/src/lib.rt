@@ -21,8 +21,10 @@ pub use refusal::FormRefusal;
 /// Laws of meanings: two that have the same values are one, and a product with a constant is a multiple.
 pub fn meaning_laws()
     ensures same { (g h : Meaning) → ((a : Values) → g a ≡ h a) → g ≡ h }
-    ensures left { (x y : Meaning) (k : ℤ) → ((a : Values) → x a ≡ k *ℤ a.denominator) → product_of x y ≡ (λ a. k *ℤ y a) }
-    ensures right { (x y : Meaning) (k : ℤ) → ((a : Values) → y a ≡ k *ℤ a.denominator) → product_of x y ≡ (λ a. k *ℤ x a) }
+    ensures left { (x y : Meaning) (k : ℤ) → ((a : Values) → x a ≡ k *ℤ a.denominator) →
+        product_of x y ≡ (λ a. k *ℤ y a) }
+    ensures right { (x y : Meaning) (k : ℤ) → ((a : Values) → y a ≡ k *ℤ a.denominator) →
+        product_of x y ≡ (λ a. k *ℤ x a) }
 {}
 
 /// Laws of forms: a meaning has one form at most, whose numbers are those of the meaning and none of them too large. It

@@ -41,7 +41,8 @@ fn next_term(left: &[(u32, i64)], i: usize, by: i64, right: &[(u32, i64)], j: us
     ensures further { i + j < result.i + result.j }
     ensures i_in { result.i ≤ length left.now }
     ensures j_in { result.j ≤ length right.now }
-    ensures moves { (n from : ℕ) → Rises n from (drop i left.now) → Rises n from (drop j right.now) → Moves n from left.now i by right.now j result }
+    ensures moves { (n from : ℕ) → Rises n from (drop i left.now) → Rises n from (drop j right.now) →
+        Moves n from left.now i by right.now j result }
 {
     let left_var = var_at(left, i);
     let right_var = var_at(right, j);

@@ -1,0 +1,17 @@
+pub mod Refusals
+pub mod Trials
+pub mod Scopes
+pub mod Tuples
+pub mod Worths
+pub mod Places
+pub mod ExpressionTrials
+pub mod Cases
+pub mod Formulas
+pub mod Demands
+pub mod DemandTrials
+pub mod Tags
+pub mod Expansions
+pub mod Limits
+pub mod Declarations
+pub mod Goals
+pub mod Models

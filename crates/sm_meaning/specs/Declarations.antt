@@ -17,7 +17,8 @@ use Rattle.sm_meaning.specs.declared.refusal.Wrong.TheVariants.{Shape, Value}
 use Rattle.sm_meaning.specs.Refusals.{wrong_if, number_over, count_over}
 use Rattle.sm_meaning.specs.Trials.{Trial, ◌▸◌, nothing_tried, tried, each_tried}
 use Rattle.sm_meaning.specs.Scopes as thing
-use Rattle.sm_meaning.specs.Scopes.{Range, Thing, found, Names, Scope}
+use Rattle.sm_meaning.specs.declared.range.Range.{Range}
+use Rattle.sm_meaning.specs.Scopes.{Thing, found, Names, Scope}
 use Rattle.sm_meaning.specs.Tuples.{size_of, numbers_of, member_count}
 use Rattle.sm_meaning.specs.ExpressionTrials.{new_tried, set_tried}
 use Rattle.sm_meaning.specs.Cases.{number_of, number_tried}

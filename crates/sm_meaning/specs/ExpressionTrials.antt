@@ -1,5 +1,5 @@
 -- What is tried of an expression, in the order of the text.
-use Rattle.std.specs.Prelude.{ℕ, suc, ◌+◌, List, [], ◌∷◌, map, length, ◌==◌, ℤ, pos, ◌-ℤ◌, int_le, nat_lt, Bool, true, false, not, ◌&&◌, Option, Some, None, option_map, slice_index_or, if◌then◌else◌}
+use Rattle.std.specs.Prelude.{ℕ, suc, is_some, ◌+◌, List, [], ◌∷◌, map, length, ◌==◌, ℤ, pos, ◌-ℤ◌, int_le, nat_lt, Bool, true, false, not, ◌&&◌, Option, Some, None, option_map, slice_index_or, if◌then◌else◌}
 use Rattle.sm_syntax.specs.declared.place.Place.{Place}
 use Rattle.sm_syntax.specs.declared.tree.Name.{Name}
 use Rattle.sm_syntax.specs.declared.tree.Bind.{Bind}
@@ -12,7 +12,8 @@ use Rattle.sm_meaning.specs.declared.refusal.ExpandRefusal.{ExpandRefusal}
 use Rattle.sm_meaning.specs.Refusals.{wrong_if, over}
 use Rattle.sm_meaning.specs.Trials.{Trial, ◌▸◌, nothing_tried, tried, visit}
 use Rattle.sm_meaning.specs.Scopes as thing
-use Rattle.sm_meaning.specs.Scopes.{Range, Thing, found, Tuple, with_number, Scope, count_of, is_known}
+use Rattle.sm_meaning.specs.declared.range.Range.{Range}
+use Rattle.sm_meaning.specs.Scopes.{Thing, found, Tuple, with_number, Scope, count_of, is_known}
 use Rattle.sm_meaning.specs.Tuples.{span_of, tuples}
 use Rattle.sm_meaning.specs.Worths.{whole, negated_if, with_addend, times_of, plus, worth, product_worth, operand_worth, indices_of, all_pass, passes}
 use Rattle.sm_meaning.specs.Places.{place_of}
@@ -73,15 +74,15 @@ expression_count (another x xs) = suc (expression_count xs)
 
 -- ---- binders
 
--- the name of an index set
-abbrev pub set_refused : Option ℤ → Option Thing → Place → Option ExpandRefusal
-set_refused (Some z) t p = wrong_if true p Shape
-set_refused None (Some (thing.index_set r)) p = None
-set_refused None (Some _) p = wrong_if true p Shape
-set_refused None None p = wrong_if true p Unknown
+-- the name of an index set; a binder is none
+abbrev pub set_refused : Bool → Option Thing → Place → Option ExpandRefusal
+set_refused true t p = wrong_if true p Shape
+set_refused false (Some (thing.index_set r)) p = None
+set_refused false (Some _) p = wrong_if true p Shape
+set_refused false None p = wrong_if true p Unknown
 
 abbrev pub set_tried : Scope → Tuple → Name → Trial
-set_tried s b n = tried (set_refused (found b n.text) (found s.names n.text) n.place)
+set_tried s b n = tried (set_refused (is_some (found b n.text)) (found s.names n.text) n.place)
 
 -- the name is new
 abbrev pub new_tried : Scope → Tuple → Name → Trial

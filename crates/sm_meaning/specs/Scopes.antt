@@ -3,11 +3,7 @@ use Rattle.std.specs.Prelude.{ℕ, List, [], ◌∷◌, ◌++◌, length, ℤ, B
 use Rattle.std.specs.Str.{bytes_eq}
 use Rattle.sm_kinds.specs.declared.var.VarKind.{VarKind}
 use Rattle.sm_data.specs.declared.table.Table.{Table}
-
--- the whole numbers from a least to a greatest; none where that is less
-pub record Range : Type 0 where
-  pub least : ℤ
-  pub greatest : ℤ
+use Rattle.sm_meaning.specs.declared.range.Range.{Range}
 
 -- a variable has its number, and a family the number of its first member and an index set for each index
 pub data Thing : Type 0 where

@@ -1,7 +1,8 @@
 -- What is tried, one thing after another, while the tuples that are visited are counted.
-use Rattle.std.specs.Prelude.{ℕ, ◌+◌, List, [], ◌∷◌, nat_lt, Option, Some, None, if◌then◌else◌}
+use Rattle.std.specs.Prelude.{◌≡◌, ℕ, ◌+◌, List, [], ◌∷◌, nat_lt, Option, Some, None, Result, Ok, Err, if◌then◌else◌}
 use Rattle.sm_data.specs.declared.refusal.Counted.TheVariants as counted
 use Rattle.sm_meaning.specs.declared.refusal.ExpandRefusal.{ExpandRefusal}
+use Rattle.sm_meaning.specs.declared.refusal.ExpandRefusal.TheVariants as refusal
 use Rattle.sm_meaning.specs.Refusals.{over}
 
 -- a part of the text is refused, or it is gone through, with so many tuples visited by then
@@ -47,3 +48,11 @@ each_tried f (x ∷ xs) = f x ▸ each_tried f xs
 abbrev pub refusal_of : Outcome → Option ExpandRefusal
 refusal_of (stopped r) = Some r
 refusal_of (reached count) = None
+
+-- What a call answers that goes through a part of the text, with the count of tuples before it and after it: what it makes,
+-- where nothing is refused, and else the first refusal. Want of memory may come anywhere.
+abbrev pub GoesThrough : {X : Type 0} → Trial → ℕ → ℕ → (X → Type 0) → Result X ExpandRefusal → Type 0
+GoesThrough part before after P (Ok x) = (part before ≡ reached after) × P x
+GoesThrough part before after P (Err refusal.OutOfMemory) = Unit {0}
+GoesThrough part before after P (Err (refusal.Meaning line column what)) = part before ≡ stopped (refusal.Meaning line column what)
+GoesThrough part before after P (Err (refusal.Limit what found bound)) = part before ≡ stopped (refusal.Limit what found bound)

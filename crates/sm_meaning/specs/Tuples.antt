@@ -2,7 +2,8 @@
 use Rattle.std.specs.Prelude.{ℕ, zero, suc, ◌+◌, ◌*◌, List, [], ◌∷◌, ℤ, pos, ◌+ℤ◌, ◌-ℤ◌, unsigned_abs, int_le, Option, Some, if◌then◌else◌}
 use Rattle.std.specs.List.{flat_map}
 use Rattle.sm_syntax.specs.declared.tree.Bind.{Bind}
-use Rattle.sm_meaning.specs.Scopes.{Range, Thing, index_set, found, Names, Tuple, with_number}
+use Rattle.sm_meaning.specs.declared.range.Range.{Range}
+use Rattle.sm_meaning.specs.Scopes.{Thing, index_set, found, Names, Tuple, with_number}
 
 -- how many numbers a range has
 abbrev pub size_of : Range → ℕ

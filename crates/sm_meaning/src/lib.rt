@@ -4,6 +4,8 @@
 //! function of the variables' values; a refusal is the first of what is tried, in the order of the text.
 #![tactic(auto)]
 
+mod range;
 mod refusal;
 
+pub use range::Range;
 pub use refusal::{ExpandRefusal, Wrong};

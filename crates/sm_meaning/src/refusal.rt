@@ -1,5 +1,9 @@
 //! Why a model text has no meaning.
+ghost use Rattle.std.specs.Prelude.{◌≡◌};
+ghost use Rattle.sm_meaning.specs.declared.refusal.ExpandRefusal.TheVariants.{Meaning};
+
 use sm_data::Counted;
+use sm_syntax::Place;
 use std::alloc::{AllocError, AllocFailed};
 use thiserror::Error;
 
@@ -47,6 +51,19 @@ pub enum ExpandRefusal {
     },
     #[error("memory ran out")]
     OutOfMemory,
+}
+
+impl ExpandRefusal {
+    /// This is wrong at this place.
+    pub fn at(place: Place, what: Wrong) -> ExpandRefusal
+        ensures { result ≡ Meaning place.line place.column what }
+    {
+        ExpandRefusal::Meaning {
+            line: place.line,
+            column: place.column,
+            what,
+        }
+    }
 }
 
 impl From<AllocError> for ExpandRefusal {

@@ -1,0 +1,3 @@
+pub mod Wheels
+pub mod Things
+pub mod Binding

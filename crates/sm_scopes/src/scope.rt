@@ -1,0 +1,95 @@
+//! The names that are known, and what they stand for.
+ghost use Rattle.std.specs.Prelude.{◌≡◌, ◌++◌, ◌∷◌, [], length, map, option_map, is_some, IfOk, OnOk, OnErr, false};
+ghost use Rattle.sm_meaning.specs.Scopes.{found, count_of};
+ghost use Rattle.sm_meaning.specs.Expansions.{beginning, scope_of};
+ghost use Rattle.sm_scopes.specs.Things.{thing_of};
+
+use indexmap::IndexMap;
+use sm_data::{Table, Tables};
+use sm_kinds::VarKind;
+use sm_meaning::Range;
+use sqlite_items::Items;
+use std::alloc::{AllocError, Global};
+use std::marker::Model;
+
+/// What a name stands for.
+#[derive(Drop)]
+pub enum Thing<'t> {
+    Table(&'t Table),
+    IndexSet(Range),
+    /// The variable of this number.
+    Variable(u32),
+    /// A family of variables with an index set for each index. Its members have the numbers from `first` on, in
+    /// lexicographic order of their indices.
+    Family {
+        first: u32,
+        sets: Items<Range>,
+    },
+}
+
+/// The names that are known, and the kinds of the variables that are declared.
+#[derive(Drop)]
+pub struct Scope<'t> {
+    names: IndexMap<&'t [u8], Thing<'t>>,
+    kinds: Vec<VarKind>,
+}
+
+impl<'t> Model for Scope<'t> {
+    ghost use Rattle.std.specs.Prelude.{map};
+    ghost use Rattle.sm_meaning.specs.Scopes.{Scope};
+    ghost use Rattle.sm_scopes.specs.Things.{thing_of};
+
+    ghost Value = { Scope };
+
+    ghost view = { λ s. record { names = map (λ e. (e.0.now, thing_of e.1)) s.names.entries; kinds = s.kinds.items } };
+}
+
+impl<'t> Scope<'t> {
+    /// Nothing is known.
+    pub fn new(alloc: Global) -> Scope<'t>
+        ensures names { result.names ≡ [] }
+        ensures kinds { result.kinds ≡ [] }
+    {
+        Scope {
+            names: IndexMap::new(alloc),
+            kinds: Vec::new(alloc),
+        }
+    }
+
+    /// What a name stands for.
+    pub fn look(&self, name: &[u8]) -> Option<&Thing<'t>>
+        ensures { option_map (λ t. thing_of t.now) result ≡ found self.now.names name.now }
+    {
+        self.names.get(name)
+    }
+
+    /// How many variables are declared.
+    pub fn count(&self) -> usize
+        ensures { result ≡ count_of self.now }
+    {
+        self.kinds.len()
+    }
+
+    /// A name that isn't known yet stands for this.
+    pub fn insert(&mut self, name: &'t [u8], thing: Thing<'t>) -> Result<(), AllocError>
+        requires { is_some (found self.old.names name.now) ≡ false }
+        ensures ok { OnOk result (self.new.names ≡ self.old.names ++ (name.now, thing_of thing.entry) ∷ []) }
+        ensures kinds { self.new.kinds ≡ self.old.kinds }
+    {
+        if self.names.insert(name, thing).is_err() {
+            return Err(AllocError);
+        }
+        Ok(())
+    }
+
+    /// One more variable of this kind.
+    pub fn declare(&mut self, kind: VarKind) -> Result<(), AllocError>
+        ensures ok { OnOk result (self.new.kinds ≡ self.old.kinds ++ kind ∷ []) }
+        ensures names { self.new.names ≡ self.old.names }
+    {
+        match self.kinds.push(kind) {
+            Ok(()) => Ok(()),
+            Err(_) => Err(AllocError),
+        }
+    }
+}

@@ -1,5 +1,5 @@
 -- Names in the order in which they were told: what stands at one, and that a new one goes last.
-use Rattle.std.proofs.Common.{◌≡◌, ◌∙◌, ap, refl, ◌||◌, ℕ, Bool, true, false, List, [], ◌∷◌, ◌++◌, map, option_map, is_some, Result, Ok, Err, OnOk}
+use Rattle.std.proofs.Common.{◌≡◌, ap, refl, ℕ, Bool, true, false, List, [], ◌∷◌, ◌++◌, map, option_map, is_some, Result, Ok, Err, OnOk}
 use Rattle.std.specs.Prelude.{if◌then◌else◌, Option, Some, None}
 use Rattle.std.specs.Borrow.{Bor}
 use Rattle.std.specs.Map.{lookup}

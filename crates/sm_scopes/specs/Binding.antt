@@ -4,7 +4,10 @@ use Rattle.sm_syntax.specs.declared.tree.Bind.{Bind}
 use Rattle.sm_meaning.specs.declared.refusal.ExpandRefusal.{ExpandRefusal}
 use Rattle.sm_meaning.specs.declared.refusal.ExpandRefusal.TheVariants as refusal
 use Rattle.sm_meaning.specs.Trials.{Trial, stopped}
-use Rattle.sm_meaning.specs.Scopes.{Tuple, Scope}
+use Rattle.sm_meaning.specs.Scopes.{Tuple, Scope, with_number}
+use Rattle.sm_meaning.specs.Tuples.{span_of}
+use Rattle.sm_scopes.specs.declared.cases.Wheel.{Wheel}
+use Rattle.sm_scopes.specs.Wheels.{span, IsAtFirst}
 use Rattle.sm_meaning.specs.ExpressionTrials.{binds_tried}
 
 -- the part is refused so; want of memory may come anywhere
@@ -13,7 +16,13 @@ IsStoppedBy refusal.OutOfMemory part count = Unit {0}
 IsStoppedBy (refusal.Meaning line column what) part count = part count ≡ stopped (refusal.Meaning line column what)
 IsStoppedBy (refusal.Limit what found bound) part count = part count ≡ stopped (refusal.Limit what found bound)
 
--- what follows is tried behind the new tuple, or all is refused
-abbrev pub BindGoesThrough : Bind → Scope → Tuple → Tuple → Result (Unit {0}) ExpandRefusal → Type 0
-BindGoesThrough x s b c (Ok _) = (xs : List Bind) (count : ℕ) → binds_tried (x ∷ xs) s b count ≡ binds_tried xs s c count
-BindGoesThrough x s b c (Err e) = (xs : List Bind) (count : ℕ) → IsStoppedBy e (binds_tried (x ∷ xs) s b) count
+-- the wheel of a binder, behind what is bound
+pub record IsWheelOf (x : Bind) (s : Scope) (b : Tuple) (w : Wheel) : Type 0 where
+  pub tried : (xs : List Bind) (count : ℕ) → binds_tried (x ∷ xs) s b count ≡ binds_tried xs s (with_number b w.name.now w.number) count
+  pub span : span w ≡ span_of s.names x
+  pub first : IsAtFirst w
+
+-- a wheel behind which what follows is tried; or all is refused, whatever follows
+abbrev pub Binds : Bind → Scope → Tuple → Result Wheel ExpandRefusal → Type 0
+Binds x s b (Ok w) = IsWheelOf x s b w
+Binds x s b (Err e) = (xs : List Bind) (count : ℕ) → IsStoppedBy e (binds_tried (x ∷ xs) s b) count

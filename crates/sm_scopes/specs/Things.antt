@@ -1,11 +1,8 @@
 -- What the code keeps of names, as the definitions see it.
-use Rattle.std.specs.Prelude.{ℕ, List, map, Option, option_map}
-use Rattle.sm_kinds.specs.declared.var.VarKind.{VarKind}
 use Rattle.sm_meaning.specs.Scopes as s
 use Rattle.sm_meaning.specs.Scopes.{Names, Scope}
 use Rattle.sm_scopes.specs.declared.scope.Thing.{Thing}
 use Rattle.sm_scopes.specs.declared.scope.Thing.TheVariants as thing
-
 
 abbrev pub thing_of : Thing → s.Thing
 thing_of (thing.Table t) = s.table t.now

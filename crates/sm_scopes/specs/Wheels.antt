@@ -1,7 +1,6 @@
 -- Binders that turn like the wheels of a counter, the last one fastest.
 use Rattle.std.specs.Prelude.{◌≡◌, ℕ, List, [], ◌∷◌, ◌++◌, map, ℤ, pos, ◌+ℤ◌, ◌≤ℤ◌, int_lt, All, Bool, true, false}
 use Rattle.std.specs.List.{flat_map, list_any}
-use Rattle.sm_meaning.specs.declared.range.Range.{Range}
 use Rattle.sm_meaning.specs.Scopes.{Tuple, with_number}
 use Rattle.sm_meaning.specs.Tuples.{numbers_of, tuples}
 use Rattle.sm_scopes.specs.declared.cases.Wheel.{Wheel}

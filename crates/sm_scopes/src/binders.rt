@@ -1,12 +1,13 @@
 //! Binders with their index sets.
-ghost use Rattle.std.specs.Prelude.{◌≡◌, ◌++◌, ◌∷◌, [], ℕ, List, map, All, IfOk, OnOk};
+ghost use Rattle.std.specs.Prelude.{◌≡◌, ◌++◌, ◌∷◌, [], ℕ, List, map, All, IfOk, IfErr};
 ghost use Rattle.sm_syntax.specs.declared.tree.Bind.{Bind as BindNode};
+ghost use Rattle.sm_meaning.specs.declared.refusal.ExpandRefusal.TheVariants.{OutOfMemory};
 ghost use Rattle.sm_meaning.specs.Scopes.{found};
 ghost use Rattle.sm_meaning.specs.Trials.{GoesThrough};
 ghost use Rattle.sm_meaning.specs.Tuples.{numbers_of, set_numbers, span_of, tuples};
 ghost use Rattle.sm_meaning.specs.ExpressionTrials.{new_tried, set_tried, binds_tried};
-ghost use Rattle.sm_scopes.specs.Wheels.{tuple_of, spans, IsAtFirst, IsFixed};
-ghost use Rattle.sm_scopes.specs.Binding.{BindGoesThrough};
+ghost use Rattle.sm_scopes.specs.Wheels.{tuple_of, IsAtFirst, IsFixed};
+ghost use Rattle.sm_scopes.specs.Binding.{Binds};
 
 use crate::cases::{Cases, Wheel, number_in};
 use crate::scope::{Scope, Thing};
@@ -40,31 +41,37 @@ fn index_set(scope: &Scope, wheels: &[Wheel], name: &Name) -> Result<Range, Expa
     }
 }
 
-/// One more binder, at the least number of its set.
-fn bind<'t>(
-    scope: &Scope,
-    wheels: &mut Vec<Wheel<'t>>,
-    binder: &'t Bind,
-) -> Result<(), ExpandRefusal>
-    requires { All IsAtFirst wheels.old.items }
-    ensures tried { BindGoesThrough binder.now scope.now (tuple_of wheels.old.items) (tuple_of wheels.new.items) result }
-    ensures spans { OnOk result (spans wheels.new.items ≡ spans wheels.old.items ++ span_of scope.now.names binder.now ∷ []) }
-    ensures first { OnOk result (All IsAtFirst wheels.new.items) }
+/// A binder at the least number of its range.
+fn at_first<'t>(binder: &'t Bind, range: Range) -> Wheel<'t>
+    ensures name { result.name.now ≡ binder.now.name.text }
+    ensures range { result.range ≡ range }
+    ensures first { IsAtFirst result }
 {
-    expect_new(scope, wheels.as_slice(), &binder.name)?;
-    let range = index_set(scope, wheels.as_slice(), &binder.set)?;
-    wheels.push(Wheel {
+    Wheel {
         name: binder.name.text.as_slice(),
         range,
         number: range.least,
-    })?;
-    Ok(())
+    }
+}
+
+/// One more binder.
+fn bind<'t>(
+    scope: &Scope,
+    wheels: &[Wheel<'t>],
+    binder: &'t Bind,
+) -> Result<Wheel<'t>, ExpandRefusal>
+    ensures { Binds binder.now scope.now (tuple_of wheels.now) result }
+{
+    expect_new(scope, wheels, &binder.name)?;
+    let range = index_set(scope, wheels, &binder.set)?;
+    Ok(at_first(binder, range))
 }
 
 /// What is bound outside, in ranges of one number.
 fn fixed<'t>(alloc: Global, outside: &[Wheel<'t>]) -> Result<Vec<Wheel<'t>>, ExpandRefusal>
     ensures tuple { IfOk result (λ ws. tuple_of ws.items ≡ tuple_of outside.now) }
     ensures fixed { IfOk result (λ ws. All IsFixed ws.items) }
+    ensures memory { IfErr result (λ e. e ≡ OutOfMemory) }
 {
     let mut wheels = Vec::new(alloc);
     for wheel in outside {
@@ -97,9 +104,9 @@ impl<'t> Cases<'t> {
             (λ c. c.to_come ≡ tuples (map (span_of scope.now.names) (first.now ∷ more.now)) outside.now.tuple) result }
     {
         let mut wheels = fixed(alloc, outside.wheels.as_slice())?;
-        bind(scope, &mut wheels, first)?;
+        wheels.push(bind(scope, wheels.as_slice(), first)?)?;
         for binder in more {
-            bind(scope, &mut wheels, binder)?;
+            wheels.push(bind(scope, wheels.as_slice(), binder)?)?;
         }
         Ok(Cases {
             wheels,

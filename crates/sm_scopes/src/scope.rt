@@ -21,10 +21,7 @@ pub enum Thing<'t> {
     Variable(u32),
     /// A family of variables with an index set for each index. Its members have the numbers from `first` on, in
     /// lexicographic order of their indices.
-    Family {
-        first: u32,
-        sets: Items<Range>,
-    },
+    Family { first: u32, sets: Items<Range> },
 }
 
 /// The names that are known, and the kinds of the variables that are declared.

@@ -1,5 +1,4 @@
-use Rattle.std.proofs.Common.{rules, ◌≡◌, ◌≤◌, length, take, drop, All, [], MatchOption, ℕ, ◌+◌, ◌-◌, ◌*◌, ◌<◌, ◌/◌, ◌%◌, Bool, true, false, nat_eq, nat_lt, List, ◌∷◌, ◌++◌, slice_index_or, slice_set, bit_and, bit_or, Fits, w8, w32, w64, Bor, MutBor}
-use Rattle.sm_scopes.specs.Wheels.{numbers_behind, behind, IsWheel, Turns, Follows, IsFirst}
+use Rattle.std.proofs.Common.{◌-◌}
 use Rattle.sm_scopes.proofs.Wheels.{turned_at, ended_at, anew_at, wheels_set}
 use Rattle.sm_scopes.proofs.cases.+turn.Goals as goal
 

@@ -1,4 +1,4 @@
-use Rattle.std.proofs.Common.{rules, ◌≡◌, ◌∙◌, ap, sym, map, is_some, false, List, ◌++◌, ◌∷◌, []}
+use Rattle.std.proofs.Common.{rules, ◌≡◌, ◌∙◌, ap, sym, map, is_some, false, ◌++◌, ◌∷◌, []}
 use Rattle.std.proofs.lemmas.List.{map-append}
 use Rattle.indexmap.specs.IndexMap.{insert_entry}
 use Rattle.sm_meaning.specs.Scopes.{found, Names}

@@ -1,4 +1,4 @@
-use Rattle.std.proofs.Common.{rules, ◌≡◌, ◌∙◌, ap, map, option_map, List}
+use Rattle.std.proofs.Common.{rules, ◌≡◌, ◌∙◌, ap, map, option_map}
 use Rattle.sm_meaning.specs.Scopes.{found, Names}
 use Rattle.sm_scopes.specs.Things.{thing_of}
 use Rattle.sm_scopes.proofs.Names.{entry_of, found_at, lent}

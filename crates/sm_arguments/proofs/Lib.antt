@@ -1,0 +1,6 @@
+pub mod Views
+pub mod Built
+pub mod Held
+pub mod Turns
+pub mod Finish
+pub mod Reading

@@ -4,3 +4,4 @@ pub mod Held
 pub mod Turns
 pub mod Finish
 pub mod Reading
+pub mod Rows

@@ -3,5 +3,5 @@ pub mod Built
 pub mod Held
 pub mod Turns
 pub mod Finish
-pub mod Reading
+pub mod Agreement
 pub mod Rows

@@ -3,10 +3,10 @@ use Rattle.std.specs.Prelude.{◌≡◌, ◌==◌, ◌&&◌, ℕ, length, codes,
 use Rattle.std.specs.List.{list_any}
 use Rattle.std.specs.Option.{option_map_or}
 use Rattle.std.specs.Str.{bytes_eq}
-use Rattle.sm_arguments.specs.declared.line.Request.{Request}
-use Rattle.sm_arguments.specs.declared.line.Request.TheVariants as request
-use Rattle.sm_arguments.specs.declared.line.RequestRefusal.{RequestRefusal}
-use Rattle.sm_arguments.specs.declared.line.RequestRefusal.TheVariants as refusal
+use Rattle.sm_arguments.specs.declared.requests.Request.{Request}
+use Rattle.sm_arguments.specs.declared.requests.Request.TheVariants as request
+use Rattle.sm_arguments.specs.declared.refusal.RequestRefusal.{RequestRefusal}
+use Rattle.sm_arguments.specs.declared.refusal.RequestRefusal.TheVariants as refusal
 
 -- the bytes of a word
 abbrev pub Word : Type 0

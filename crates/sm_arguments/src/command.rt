@@ -1,10 +1,10 @@
 //! The command line as clap reads it.
-ghost use Rattle.std.specs.Prelude.{◌≡◌, IfOk, map, string_bytes, option_map, true, []};
-ghost use Rattle.clap.specs.Words.{app_of, found_of, rows_of, matches_of, fault_of, kind_of, first_of};
+ghost use Rattle.std.specs.Prelude.{◌≡◌, IfOk, Err, map, string_bytes, option_map, []};
+ghost use Rattle.clap.specs.Words.{app_of, found_of, rows_of, matches_of, fault_of, first_of};
 ghost use Rattle.sm_arguments.specs.App.{simpl, is_given};
-ghost use Rattle.sm_arguments.specs.declared.line.RequestRefusal.TheVariants.{Usage};
+ghost use Rattle.sm_arguments.specs.declared.refusal.RequestRefusal.TheVariants.{Usage};
 
-use crate::line::RequestRefusal;
+use crate::refusal::RequestRefusal;
 use clap::error::ErrorKind;
 use clap::{Arg, ArgAction, ArgMatches, Command};
 use std::alloc::{AllocError, Global};
@@ -36,19 +36,11 @@ pub(crate) fn matched<'a>(
     ensures taken { IfOk result (λ m. fault_of simpl (map string_bytes words.now) ≡ []) }
     ensures refused { result ≡ Err Usage → fault_of simpl (map string_bytes words.now) ≡ [] → ⊥ }
 {
-    let command = match declared(alloc) {
-        Ok(command) => command,
-        Err(_) => return Err(RequestRefusal::OutOfMemory),
-    };
+    let command = declared(alloc)?;
     match command.try_get_matches_from(words) {
         Ok(matches) => Ok(matches),
-        Err(error) => {
-            if error.kind() == ErrorKind::OutOfMemory {
-                Err(RequestRefusal::OutOfMemory)
-            } else {
-                Err(RequestRefusal::Usage)
-            }
-        }
+        Err(error) if error.kind() == ErrorKind::OutOfMemory => Err(RequestRefusal::OutOfMemory),
+        Err(_) => Err(RequestRefusal::Usage),
     }
 }
 
@@ -63,8 +55,6 @@ pub(crate) fn first<'a>(matches: &ArgMatches<'a>, id: &str) -> Option<&'a str>
 pub(crate) fn is_given(matches: &ArgMatches, id: &str) -> bool
     ensures { result ≡ is_given id.now (rows_of (found_of matches.now)) }
 {
-    match matches.get_str(id) {
-        Some(word) => word == "true",
-        None => false,
-    }
+    // What `get_flag` makes of a value other than `true` and `false` is not stated.
+    first(matches, id) == Some("true")
 }

@@ -2,8 +2,10 @@
 #![tactic(auto)]
 
 mod command;
-mod line;
+mod reading;
+mod refusal;
 mod requests;
 
-pub use line::{Request, RequestRefusal};
-pub use requests::request;
+pub use reading::request;
+pub use refusal::RequestRefusal;
+pub use requests::Request;

@@ -1,15 +1,14 @@
-use Rattle.std.proofs.Common.{◌≡◌, ◌∙◌, ap, Some, None}
-use Rattle.clap.specs.Words.{found_of, rows_of, first_of}
-use Rattle.clap.proofs.WalkLemmas.{first_value-rows}
+use Rattle.std.proofs.Common.{◌≡◌, ◌∙◌, refl, ap, codes, Bool, Option, Some, None, Bor}
+use Rattle.std.specs.Option.{option_eq, option_map}
+use Rattle.std.specs.Str.{bytes_eq}
 use Rattle.sm_arguments.specs.App.{is_true}
+use Rattle.sm_arguments.specs.Request.{Word}
 use Rattle.sm_arguments.proofs.command.is_given.Goals as goal
 
-pub returns-in-Some : goal.returns-in-Some
-returns-in-Some c =
-    let value : Some c.in-Some.word.now ≡ first_of c.args.id.now (rows_of (found_of c.args.matches.now)) = c.in-Some.ensures ∙ first_value-rows (found_of c.args.matches.now) c.args.id.now in
-    c.eq.ensures ∙ ap is_true value
+compared : (E : Bor Word → Bor Word → Bool) (o : Option (Bor Word)) (t : Bor Word) → ((w : Bor Word) → E w t ≡ bytes_eq w.now (codes "true"))
+    → option_eq E o (Some t) ≡ is_true (option_map (λ w. w.now) o)
+compared E None t texts = refl
+compared E (Some w) t texts = texts w
 
-pub returns-in-None : goal.returns-in-None
-returns-in-None c =
-    let none : None ≡ first_of c.args.id.now (rows_of (found_of c.args.matches.now)) = c.in-None.ensures ∙ first_value-rows (found_of c.args.matches.now) c.args.id.now in
-    ap is_true none
+pub returns : goal.returns
+returns c = c.eq.ensures ∙ compared _ c.first.result _ (λ w. refl) ∙ ap is_true c.first.ensures

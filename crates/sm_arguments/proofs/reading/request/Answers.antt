@@ -4,10 +4,10 @@ use Rattle.std.proofs.lemmas.Str.{IsUtf8-string_bytes}
 use Rattle.clap.specs.Words.{fault_of}
 use Rattle.sm_arguments.specs.Request.{Word, Answers, asked_by}
 use Rattle.sm_arguments.specs.App.{simpl, asked_by_rows}
-use Rattle.sm_arguments.specs.declared.line.RequestRefusal.{RequestRefusal}
-use Rattle.sm_arguments.specs.declared.line.RequestRefusal.TheVariants as refusal
-use Rattle.sm_arguments.proofs.Reading.{AreTexts, taken, refused}
-use Rattle.sm_arguments.proofs.requests.request.Goals as goal
+use Rattle.sm_arguments.specs.declared.refusal.RequestRefusal.{RequestRefusal}
+use Rattle.sm_arguments.specs.declared.refusal.RequestRefusal.TheVariants as refusal
+use Rattle.sm_arguments.proofs.Agreement.{AreTexts, taken, refused}
+use Rattle.sm_arguments.proofs.reading.request.Goals as goal
 
 all_texts : (words : List (String Global)) → AreTexts (map string_bytes words)
 all_texts [] = tt

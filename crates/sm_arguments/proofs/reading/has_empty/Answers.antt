@@ -3,7 +3,7 @@ use Rattle.std.proofs.lemmas.Iterator.{YieldsList-from_slice}
 use Rattle.std.proofs.lemmas.Iterator.Search.{any_from_yields_List}
 use Rattle.clap.proofs.WalkLemmas.{list_any-map}
 use Rattle.sm_arguments.specs.Request.{is_empty}
-use Rattle.sm_arguments.proofs.requests.has_empty.Goals as goal
+use Rattle.sm_arguments.proofs.reading.has_empty.Goals as goal
 
 pub returns : goal.returns
 returns c =

@@ -4,7 +4,7 @@ use Rattle.clap.proofs.WalkLemmas.{raw_values-rows}
 use Rattle.clap.specs.Words.{found_of, rows_of}
 use Rattle.sm_arguments.specs.Request.{Word, Answers, asked_with}
 use Rattle.sm_arguments.specs.App.{files_in, others_from, asked_by_rows}
-use Rattle.sm_arguments.proofs.requests.requested.Goals as goal
+use Rattle.sm_arguments.proofs.reading.requested.Goals as goal
 
 -- the values of an argument that may be none
 values_of : Option (List Word) → List Word

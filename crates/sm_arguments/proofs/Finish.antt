@@ -9,7 +9,7 @@ use Rattle.clap.specs.Faults.{check_fault, defaults_fault, entered_fault, settle
 use Rattle.sm_arguments.specs.Request.{Word, asked_with}
 use Rattle.sm_arguments.specs.App.{asked_by_rows, is_true, others_from}
 use Rattle.sm_arguments.proofs.Built.{app, brief_rule, command_rule, files_rule, model_rule, rules, shape}
-use Rattle.sm_arguments.proofs.Held.{HasViews, Holds, command_in, files_in, model_in}
+use Rattle.sm_arguments.proofs.Held.{HasViews, Holds, command_values, files_values, model_values}
 use Rattle.sm_arguments.proofs.Views.{first_of-all_of, has_row-None, has_row-Some, put-new, put-other}
 
 -- ---- faults
@@ -53,9 +53,9 @@ flag_text false = codes "false"
 
 -- what is found at the end: the flag has a value in any case
 record IsFound (rows : List Row) (brief : Bool) (others : List Word) : Type 0 where
-  command : all_of (codes "command") rows ≡ command_in others
-  model : all_of (codes "model") rows ≡ model_in others
-  files : all_of (codes "files") rows ≡ files_in others
+  command : all_of (codes "command") rows ≡ command_values others
+  model : all_of (codes "model") rows ≡ model_values others
+  files : all_of (codes "files") rows ≡ files_values others
   flag : all_of (codes "brief") rows ≡ Some (flag_text brief ∷ [])
 
 found_at_end : (rows : List Row) (brief : Bool) (others : List Word) → HasViews rows brief others → IsFound (with_default rows brief_rule) brief others
@@ -82,7 +82,7 @@ flag_is true = refl
 flag_is false = refl
 
 same_request : (brief : Bool) (others : List Word)
-    → asked_with (others_from (first_value (command_in others)) (first_value (model_in others)) (or_none (files_in others))) (Some brief) ≡ asked_with others (Some brief)
+    → asked_with (others_from (first_value (command_values others)) (first_value (model_values others)) (or_none (files_values others))) (Some brief) ≡ asked_with others (Some brief)
 unfolding or_none
 same_request brief [] = refl
 same_request brief (command ∷ []) = refl

@@ -7,34 +7,34 @@ use Rattle.sm_arguments.proofs.Built.{command_rule, model_rule, files_rule, brie
 use Rattle.sm_arguments.proofs.Views.{has_row-None, put-more, put-new, put-other, without-missing}
 
 -- the values of each argument, by the words that are neither options nor the end of these
-abbrev pub command_in : List Word → Option (List Word)
-command_in [] = None
-command_in (command ∷ ws) = Some (command ∷ [])
+abbrev pub command_values : List Word → Option (List Word)
+command_values [] = None
+command_values (command ∷ ws) = Some (command ∷ [])
 
-abbrev pub model_in : List Word → Option (List Word)
-model_in [] = None
-model_in (command ∷ []) = None
-model_in (command ∷ model ∷ files) = Some (model ∷ [])
+abbrev pub model_values : List Word → Option (List Word)
+model_values [] = None
+model_values (command ∷ []) = None
+model_values (command ∷ model ∷ files) = Some (model ∷ [])
 
 abbrev pub some_files : List Word → Option (List Word)
 some_files [] = None
 some_files (file ∷ files) = Some (file ∷ files)
 
-abbrev pub files_in : List Word → Option (List Word)
-files_in [] = None
-files_in (command ∷ []) = None
-files_in (command ∷ model ∷ files) = some_files files
+abbrev pub files_values : List Word → Option (List Word)
+files_values [] = None
+files_values (command ∷ []) = None
+files_values (command ∷ model ∷ files) = some_files files
 
-abbrev pub flag_in : Bool → Option (List Word)
-flag_in true = Some (codes "true" ∷ [])
-flag_in false = None
+abbrev pub flag_values : Bool → Option (List Word)
+flag_values true = Some (codes "true" ∷ [])
+flag_values false = None
 
 -- the rows hold these words, and the flag where it was met
 pub record HasViews (rows : List Row) (brief : Bool) (others : List Word) : Type 0 where
-  pub command : all_of (codes "command") rows ≡ command_in others
-  pub model : all_of (codes "model") rows ≡ model_in others
-  pub files : all_of (codes "files") rows ≡ files_in others
-  pub flag : all_of (codes "brief") rows ≡ flag_in brief
+  pub command : all_of (codes "command") rows ≡ command_values others
+  pub model : all_of (codes "model") rows ≡ model_values others
+  pub files : all_of (codes "files") rows ≡ files_values others
+  pub flag : all_of (codes "brief") rows ≡ flag_values brief
 
 -- the same of what is held, of which no fault is known
 pub record Holds (h : Held) (brief : Bool) (others : List Word) : Type 0 where

@@ -28,16 +28,16 @@ is_option [] = false
 is_option (b ∷ []) = false
 is_option (b ∷ c ∷ bs) = b == 45
 
--- `--`
+-- `--`, which ends the option words
 abbrev pub is_end : Word → Bool
 is_end word = bytes_eq word (codes "--")
 
--- the option words, which end at the first `--`
+-- the option words before the first `--`
 abbrev pub options_in : List Word → List Word
 options_in [] = []
 options_in (w ∷ ws) = if is_end w then [] else (if is_option w then w ∷ options_in ws else options_in ws)
 
--- the other words, without the first `--`
+-- the other words, in their order, without the first `--`
 abbrev pub others_in : List Word → List Word
 others_in [] = []
 others_in (w ∷ ws) = if is_end w then ws else (if is_option w then others_in ws else w ∷ others_in ws)
@@ -62,12 +62,13 @@ solve_of model files brief = Some (solve model files brief)
 abbrev pub check_of : Word → List Word → Option Asked
 check_of model files = option_map (λ parts. check model parts.0 parts.1) (split_last files)
 
+-- the option goes with `solve` alone
 abbrev pub command_of : Word → Word → List Word → Bool → Option Asked
 command_of command model files brief =
     if bytes_eq command (codes "solve") then solve_of model files brief
     else (if bytes_eq command (codes "check") && not brief then check_of model files else None)
 
--- what other words than option words ask for
+-- what the other words ask for, with what the option words say
 abbrev pub asked_with : List Word → Option Bool → Option Asked
 asked_with (command ∷ model ∷ files) (Some brief) = if list_any is_empty (model ∷ files) then None else command_of command model files brief
 asked_with _ _ = None

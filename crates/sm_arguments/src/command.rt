@@ -55,6 +55,6 @@ pub(crate) fn first<'a>(matches: &ArgMatches<'a>, id: &str) -> Option<&'a str>
 pub(crate) fn is_given(matches: &ArgMatches, id: &str) -> bool
     ensures { result ≡ is_given id.now (rows_of (found_of matches.now)) }
 {
-    // What `get_flag` makes of a value other than `true` and `false` is not stated.
+    // Of `get_flag` it is known only what it answers at the values `true` and `false`.
     first(matches, id) == Some("true")
 }

@@ -93,14 +93,14 @@ fn requested<'a>(alloc: Global, matches: &ArgMatches<'a>) -> Result<Request<'a>,
 
 /// What the words after the program's name ask for.
 ///
-/// Words before the first `--` that begin with `-` and have more bytes are option words; they may stand anywhere among
-/// the others. That `--` is left out, and the other words are the command, the model and the other files, in their
-/// order. The one option is `--brief`, at `solve` alone and once at most, and no word is empty.
+/// Words before the first `--` that begin with `-` and have more bytes are option words, which may stand anywhere among
+/// the others. That `--` is left out. The other words are, in their order, the command, the model and the other files;
+/// the last file of `check` is the log. No word is empty. The one option is `--brief`, once at most and at `solve` alone.
 ///
 /// # Errors
 ///
-/// [`RequestRefusal::Usage`] exactly where the words are no such line, and else [`RequestRefusal::OutOfMemory`] where
-/// memory runs out.
+/// [`RequestRefusal::Usage`] where the words are no such line, and [`RequestRefusal::OutOfMemory`] where memory runs
+/// out, whatever the words are.
 pub fn request<'a>(alloc: Global, words: &'a [String]) -> Result<Request<'a>, RequestRefusal>
     ensures { Answers result (asked_by (map string_bytes words.now)) }
 {

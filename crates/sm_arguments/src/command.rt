@@ -13,18 +13,18 @@ use std::alloc::{AllocError, Global};
 fn declared<'a>(alloc: Global) -> Result<Command<'a>, AllocError>
     ensures { IfOk result (λ c. app_of c ≡ simpl) }
 {
-    let command = Arg::new(alloc, "command");
-    let model = Arg::new(alloc, "model");
-    let files = Arg::new(alloc, "files").action(ArgAction::Append);
-    let brief = Arg::new(alloc, "brief")
-        .long("brief")
-        .action(ArgAction::SetTrue);
-    let plain = Command::new(alloc, "simpl")
+    Command::new(alloc, "simpl")
         .no_binary_name(true)
         .disable_help_flag(true)
-        .disable_version_flag(true);
-    let whole = plain.arg(command)?.arg(model)?.arg(files)?.arg(brief)?;
-    Ok(whole)
+        .disable_version_flag(true)
+        .arg(Arg::new(alloc, "command"))?
+        .arg(Arg::new(alloc, "model"))?
+        .arg(Arg::new(alloc, "files").action(ArgAction::Append))?
+        .arg(
+            Arg::new(alloc, "brief")
+                .long("brief")
+                .action(ArgAction::SetTrue),
+        )
 }
 
 /// What the command makes of the words.

@@ -383,7 +383,7 @@ def main():
         a, b = parts.index("-- the first k coefficients of a row"), parts.index("abbrev pub numbers_of_demand")
         f.write(parts[:a] + parts[b:] + "\n" + parts[a:b].rstrip() + "\n")
     with open("crates/sm_meaning/proofs/Lib.antt", "w") as f:
-        f.write("pub mod RowParts\npub mod Rows\n")
+        f.write("pub mod RowParts\npub mod Rows\npub mod Steps\n")
 
 
 main()

@@ -1,2 +1,3 @@
 pub mod RowParts
 pub mod Rows
+pub mod Steps

@@ -15,7 +15,7 @@ use Rattle.sm_meaning.specs.Scopes as thing
 use Rattle.sm_meaning.specs.declared.range.Range.{Range}
 use Rattle.sm_meaning.specs.Scopes.{Thing, found, Tuple, with_number, Scope, count_of, is_known}
 use Rattle.sm_meaning.specs.Tuples.{span_of, tuples}
-use Rattle.sm_meaning.specs.Worths.{whole, negated_if, with_addend, times_of, plus, worth, product_worth, operand_worth, indices_of, all_pass, passes}
+use Rattle.sm_meaning.specs.Worths.{whole, named_worth, negated_if, with_addend, times_of, plus, worth, product_worth, operand_worth, indices_of, all_pass, passes}
 use Rattle.sm_meaning.specs.Places.{place_of}
 
 -- ---- numbers
@@ -104,7 +104,10 @@ adding tests pass part worth_at s g (c ∷ cs) = visit ▸ tests c ▸ (if pass 
 
 abbrev mutual
   pub expression_tried : Expression → Scope → Tuple → Trial
-  expression_tried (expression p is_negated x xs) s b = product_tried x s b ▸ sum_tried xs s b (negated_if is_negated (product_worth x s.names b))
+  expression_tried (expression p is_negated x xs) s b =
+      product_tried x s b
+      ▸ value_tried s (negated_if is_negated (product_worth x s.names b))
+      ▸ sum_tried xs s b (negated_if is_negated (product_worth x s.names b))
 
   -- the further terms, each with what is so far
   pub sum_tried : Addends → Scope → Tuple → Meaning → Trial
@@ -135,14 +138,15 @@ abbrev mutual
   factors_tried no_operands s b g = nothing_tried
   factors_tried (times x xs) s b g = value_tried s (times_of g (operand_worth x s.names b)) ▸ factors_tried xs s b (times_of g (operand_worth x s.names b))
 
-  -- a name is known before its indices are tried; then their number, and then where each lies
+  -- a name is known before its indices are tried; then their number, then where each lies, and then what stands there
   pub operand_tried : Operand → Scope → Tuple → Trial
-  operand_tried (number p n) s b = nothing_tried
+  operand_tried (number p n) s b = value_tried s (whole (pos n.value))
   operand_tried (named p n xs) s b =
       tried (wrong_if (not (is_known s b n.text)) p Unknown)
       ▸ indices_tried xs s b
       ▸ tried (wrong_if (not (has_count (index_count (found b n.text) (found s.names n.text)) (expression_count xs))) p Shape)
       ▸ indices_within (index_ranges (found b n.text) (found s.names n.text)) (indices_of xs s.names b) xs
+      ▸ value_tried s (named_worth (found b n.text) (found s.names n.text) (indices_of xs s.names b))
   operand_tried (group p x) s b = expression_tried x s b
   operand_tried (sum p x bs) s b = summing bs s b (λ c. expression_tried x s c) (λ c. worth x s.names c)
 

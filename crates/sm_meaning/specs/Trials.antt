@@ -49,10 +49,14 @@ abbrev pub refusal_of : Outcome → Option ExpandRefusal
 refusal_of (stopped r) = Some r
 refusal_of (reached count) = None
 
+-- this is the refusal; want of memory may come anywhere
+abbrev pub IsStopped : ExpandRefusal → Outcome → Type 0
+IsStopped refusal.OutOfMemory o = Unit {0}
+IsStopped (refusal.Meaning line column what) o = o ≡ stopped (refusal.Meaning line column what)
+IsStopped (refusal.Limit what found bound) o = o ≡ stopped (refusal.Limit what found bound)
+
 -- What a call answers that goes through a part of the text, with the count of tuples before it and after it: what it makes,
--- where nothing is refused, and else the first refusal. Want of memory may come anywhere.
+-- where nothing is refused, and else the first refusal.
 abbrev pub GoesThrough : {X : Type 0} → Trial → ℕ → ℕ → (X → Type 0) → Result X ExpandRefusal → Type 0
 GoesThrough part before after P (Ok x) = (part before ≡ reached after) × P x
-GoesThrough part before after P (Err refusal.OutOfMemory) = Unit {0}
-GoesThrough part before after P (Err (refusal.Meaning line column what)) = part before ≡ stopped (refusal.Meaning line column what)
-GoesThrough part before after P (Err (refusal.Limit what found bound)) = part before ≡ stopped (refusal.Limit what found bound)
+GoesThrough part before after P (Err e) = IsStopped e (part before)

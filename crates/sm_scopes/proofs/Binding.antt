@@ -7,7 +7,6 @@ use Rattle.std.proofs.lemmas.List.{map-append}
 use Rattle.sm_syntax.specs.declared.tree.Bind.{Bind}
 use Rattle.sm_meaning.specs.declared.refusal.Wrong.TheVariants.{Doubled}
 use Rattle.sm_meaning.specs.declared.refusal.ExpandRefusal.{ExpandRefusal}
-use Rattle.sm_meaning.specs.declared.refusal.ExpandRefusal.TheVariants as refusal
 use Rattle.sm_meaning.specs.Refusals.{wrong_if}
 use Rattle.sm_meaning.specs.declared.range.Range.{Range}
 use Rattle.sm_meaning.specs.Trials.{Trial, Outcome, stopped, reached, resumed, ◌▸◌, tried, GoesThrough}
@@ -16,22 +15,8 @@ use Rattle.sm_meaning.specs.Tuples.{numbers_of, set_numbers}
 use Rattle.sm_meaning.specs.ExpressionTrials.{new_tried, set_tried, set_refused, binds_tried}
 use Rattle.sm_scopes.specs.declared.cases.Wheel.{Wheel}
 use Rattle.sm_scopes.specs.Wheels.{IsAtFirst}
-use Rattle.sm_scopes.specs.Binding.{IsStoppedBy, IsWheelOf, Binds}
-
--- ---- parts that are refused
-
-pub stops_first : {X : Type 0} (e : ExpandRefusal) (part next : Trial) (P : X → Type 0) (count : ℕ) → GoesThrough {X = X} part count count P (Err e) → IsStoppedBy e (part ▸ next) count
-stops_first refusal.OutOfMemory part next P count h = tt
-stops_first (refusal.Meaning line column what) part next P count h = ap (λ o. resumed o next) h
-stops_first (refusal.Limit what found bound) part next P count h = ap (λ o. resumed o next) h
-
-pub stops_later : (e : ExpandRefusal) (part next : Trial) (count : ℕ) → part count ≡ reached count → IsStoppedBy e next count → IsStoppedBy e (part ▸ next) count
-stops_later refusal.OutOfMemory part next count h k = tt
-stops_later (refusal.Meaning line column what) part next count h k = ap (λ o. resumed o next) h ∙ k
-stops_later (refusal.Limit what found bound) part next count h k = ap (λ o. resumed o next) h ∙ k
-
-pub goes_on : (part next : Trial) (count : ℕ) → part count ≡ reached count → (part ▸ next) count ≡ next count
-goes_on part next count h = ap (λ o. resumed o next) h
+use Rattle.sm_meaning.proofs.Steps.{stops, stops_later, goes_on}
+use Rattle.sm_scopes.specs.Binding.{IsWheelOf, Binds}
 
 -- ---- binding goes by names
 
@@ -70,13 +55,13 @@ binds_by_names (x ∷ xs) s b c count h =
 -- ---- one binder
 
 pub refused_new : (e : ExpandRefusal) (x : Bind) (s : Scope) (b : Tuple) → ((count : ℕ) → GoesThrough {X = Unit {0}} (new_tried s b x.name) count count (λ _. Unit {0}) (Err e)) → Binds x s b (Err e)
-refused_new e x s b h xs count = stops_first e (new_tried s b x.name) (set_tried s b x.set ▸ binds_tried xs s (with_number b x.name.text (pos 0))) (λ (_ : Unit {0}). Unit {0}) count (h count)
+refused_new e x s b h xs count = stops e (new_tried s b x.name) (set_tried s b x.set ▸ binds_tried xs s (with_number b x.name.text (pos 0))) count (h count)
 
 pub refused_set : (e : ExpandRefusal) (x : Bind) (s : Scope) (b : Tuple) (P : Range → Type 0) → ((count : ℕ) → new_tried s b x.name count ≡ reached count)
     → ((count : ℕ) → GoesThrough (set_tried s b x.set) count count P (Err e)) → Binds x s b (Err e)
 refused_set e x s b P new h xs count =
-    stops_later e (new_tried s b x.name) (set_tried s b x.set ▸ binds_tried xs s (with_number b x.name.text (pos 0))) count (new count)
-    (stops_first e (set_tried s b x.set) (binds_tried xs s (with_number b x.name.text (pos 0))) P count (h count))
+    stops_later e (new_tried s b x.name) (set_tried s b x.set ▸ binds_tried xs s (with_number b x.name.text (pos 0))) count count (new count)
+    (stops e (set_tried s b x.set) (binds_tried xs s (with_number b x.name.text (pos 0))) count (h count))
 
 pub wheel_of : (x : Bind) (s : Scope) (b : Tuple) (w : Wheel) (r : Range) → ((count : ℕ) → new_tried s b x.name count ≡ reached count) → ((count : ℕ) → set_tried s b x.set count ≡ reached count)
     → set_numbers (found s.names x.set.text) ≡ numbers_of r → w.name.now ≡ x.name.text → w.range ≡ r → IsAtFirst w → IsWheelOf x s b w
@@ -86,8 +71,8 @@ wheel_of x s b w r new set numbers name range first =
     let same : map (λ e. e.0) b' ≡ map (λ e. e.0) c =
     map-append (λ (e : List ℕ × ℤ). e.0) b ((x.name.text, pos 0) ∷ []) ∙ ap (λ n. map (λ e. e.0) b ++ n ∷ []) (sym name) ∙ sym (map-append (λ (e : List ℕ × ℤ). e.0) b ((w.name.now, w.number) ∷ [])) in
     record {
-      tried = λ xs count. goes_on (new_tried s b x.name) (set_tried s b x.set ▸ binds_tried xs s b') count (new count)
-          ∙ goes_on (set_tried s b x.set) (binds_tried xs s b') count (set count)
+      tried = λ xs count. goes_on (new_tried s b x.name) (set_tried s b x.set ▸ binds_tried xs s b') count count (new count)
+          ∙ goes_on (set_tried s b x.set) (binds_tried xs s b') count count (set count)
           ∙ binds_by_names xs s b' c count same;
       span = λ i. (name i, (ap numbers_of range ∙ sym numbers) i);
       first = first;

@@ -6,14 +6,14 @@ use Rattle.std.proofs.lemmas.List.{map-append}
 use Rattle.std.proofs.lemmas.Grind.{common_steps}
 use Rattle.sm_syntax.specs.declared.tree.Bind.{Bind}
 use Rattle.sm_meaning.specs.declared.refusal.ExpandRefusal.{ExpandRefusal}
-use Rattle.sm_meaning.specs.declared.refusal.ExpandRefusal.TheVariants as refusal
-use Rattle.sm_meaning.specs.Trials.{Trial, reached, GoesThrough}
+use Rattle.sm_meaning.specs.Trials.{reached, GoesThrough}
 use Rattle.sm_meaning.specs.Scopes.{Tuple, Scope, with_number}
 use Rattle.sm_meaning.specs.Tuples.{numbers_of, span_of, tuples}
 use Rattle.sm_meaning.specs.ExpressionTrials.{binds_tried}
 use Rattle.sm_scopes.specs.declared.cases.Wheel.{Wheel}
 use Rattle.sm_scopes.specs.Wheels.{tuple_of, span, spans, IsAtFirst, IsFixed}
-use Rattle.sm_scopes.specs.Binding.{IsStoppedBy, IsWheelOf, Binds}
+use Rattle.sm_meaning.proofs.Steps.{stopped_same}
+use Rattle.sm_scopes.specs.Binding.{IsWheelOf, Binds}
 use Rattle.sm_scopes.proofs.Wheels.{numbers_step, numbers_none, all_head, all_tail}
 
 -- The wheels so far, with the binders that are left: what is tried and the tuples are those of all binders.
@@ -66,20 +66,10 @@ bound_more all s b x rest ws new w h is e =
 
 -- ---- how it ends
 
-stopped_by : {X : Type 0} (e : ExpandRefusal) (part : Trial) (count : ℕ) (P : X → Type 0) → IsStoppedBy e part count → GoesThrough {X = X} part count count P (Err e)
-stopped_by refusal.OutOfMemory part count P h = tt
-stopped_by (refusal.Meaning line column what) part count P h = h
-stopped_by (refusal.Limit what found bound) part count P h = h
-
-by_equal : (e : ExpandRefusal) (part other : Trial) (count : ℕ) → part count ≡ other count → IsStoppedBy e part count → IsStoppedBy e other count
-by_equal refusal.OutOfMemory part other count e h = tt
-by_equal (refusal.Meaning line column what) part other count e h = sym e ∙ h
-by_equal (refusal.Limit what found bound) part other count e h = sym e ∙ h
-
 pub bound_stops : {X : Type 0} (e : ExpandRefusal) (all : List Bind) (s : Scope) (b : Tuple) (x : Bind) (rest : List Bind) (ws : List Wheel) (P : X → Type 0) (count : ℕ)
     → Bound all s b (x ∷ rest) ws → Binds x s (tuple_of ws) (Err e) → GoesThrough {X = X} (binds_tried all s b) count count P (Err e)
 bound_stops e all s b x rest ws P count h k =
-    stopped_by e (binds_tried all s b) count P (by_equal e (binds_tried (x ∷ rest) s (tuple_of ws)) (binds_tried all s b) count (h.tried count) (k rest count))
+    stopped_same e (binds_tried (x ∷ rest) s (tuple_of ws) count) (binds_tried all s b count) (h.tried count) (k rest count)
 
 pub bound_ends : (all : List Bind) (s : Scope) (b : Tuple) (ws : List Wheel) → Bound all s b [] ws → ((count : ℕ) → binds_tried all s b count ≡ reached count) × (tuples (spans ws) [] ≡ tuples (map (span_of s.names) all) b)
 bound_ends all s b ws h = (λ count. sym (h.tried count), ap (λ ys. tuples ys []) (sym (append-nil (spans ws))) ∙ h.tuples)

@@ -2,19 +2,12 @@
 use Rattle.std.specs.Prelude.{◌≡◌, ℕ, List, ◌∷◌, Result, Ok, Err}
 use Rattle.sm_syntax.specs.declared.tree.Bind.{Bind}
 use Rattle.sm_meaning.specs.declared.refusal.ExpandRefusal.{ExpandRefusal}
-use Rattle.sm_meaning.specs.declared.refusal.ExpandRefusal.TheVariants as refusal
-use Rattle.sm_meaning.specs.Trials.{Trial, stopped}
+use Rattle.sm_meaning.specs.Trials.{IsStopped}
 use Rattle.sm_meaning.specs.Scopes.{Tuple, Scope, with_number}
 use Rattle.sm_meaning.specs.Tuples.{span_of}
 use Rattle.sm_scopes.specs.declared.cases.Wheel.{Wheel}
 use Rattle.sm_scopes.specs.Wheels.{span, IsAtFirst}
 use Rattle.sm_meaning.specs.ExpressionTrials.{binds_tried}
-
--- the part is refused so; want of memory may come anywhere
-abbrev pub IsStoppedBy : ExpandRefusal → Trial → ℕ → Type 0
-IsStoppedBy refusal.OutOfMemory part count = Unit {0}
-IsStoppedBy (refusal.Meaning line column what) part count = part count ≡ stopped (refusal.Meaning line column what)
-IsStoppedBy (refusal.Limit what found bound) part count = part count ≡ stopped (refusal.Limit what found bound)
 
 -- the wheel of a binder, behind what is bound
 pub record IsWheelOf (x : Bind) (s : Scope) (b : Tuple) (w : Wheel) : Type 0 where
@@ -25,4 +18,4 @@ pub record IsWheelOf (x : Bind) (s : Scope) (b : Tuple) (w : Wheel) : Type 0 whe
 -- a wheel behind which what follows is tried; or all is refused, whatever follows
 abbrev pub Binds : Bind → Scope → Tuple → Result Wheel ExpandRefusal → Type 0
 Binds x s b (Ok w) = IsWheelOf x s b w
-Binds x s b (Err e) = (xs : List Bind) (count : ℕ) → IsStoppedBy e (binds_tried (x ∷ xs) s b) count
+Binds x s b (Err e) = (xs : List Bind) (count : ℕ) → IsStopped e (binds_tried (x ∷ xs) s b count)

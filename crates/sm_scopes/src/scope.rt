@@ -1,8 +1,8 @@
 //! The names that are known, and what they stand for.
-ghost use Rattle.std.specs.Prelude.{◌≡◌, ◌++◌, ◌∷◌, [], length, map, option_map, is_some, IfOk, OnOk, OnErr, false};
+ghost use Rattle.std.specs.Prelude.{◌≡◌, ◌++◌, ◌∷◌, [], option_map, is_some, ◌<◌, ◌≤◌, IfSome, OnOk, false};
 ghost use Rattle.sm_meaning.specs.Scopes.{found, count_of};
-ghost use Rattle.sm_meaning.specs.Expansions.{beginning, scope_of};
-ghost use Rattle.sm_scopes.specs.Things.{thing_of};
+ghost use Rattle.sm_kinds.specs.Limits.{most_variables};
+ghost use Rattle.sm_scopes.specs.Things.{thing_of, HasVariables};
 
 use indexmap::IndexMap;
 use sm_data::{Table, Tables};
@@ -34,11 +34,13 @@ pub struct Scope<'t> {
 impl<'t> Model for Scope<'t> {
     ghost use Rattle.std.specs.Prelude.{map};
     ghost use Rattle.sm_meaning.specs.Scopes.{Scope};
-    ghost use Rattle.sm_scopes.specs.Things.{thing_of};
+    ghost use Rattle.sm_scopes.specs.Things.{thing_of, IsKept};
 
     ghost Value = { Scope };
 
     ghost view = { λ s. record { names = map (λ e. (e.0.now, thing_of e.1)) s.names.entries; kinds = s.kinds.items } };
+
+    ghost invariant = { λ s. IsKept (map (λ e. (e.0.now, thing_of e.1)) s.names.entries) s.kinds.items };
 }
 
 impl<'t> Scope<'t> {
@@ -55,21 +57,25 @@ impl<'t> Scope<'t> {
 
     /// What a name stands for.
     pub fn look(&self, name: &[u8]) -> Option<&Thing<'t>>
-        ensures { option_map (λ t. thing_of t.now) result ≡ found self.now.names name.now }
+        ensures thing { option_map (λ t. thing_of t.now) result ≡ found self.now.names name.now }
+        ensures variables { IfSome result (λ t. HasVariables (count_of self.now) (thing_of t.now)) }
     {
         self.names.get(name)
     }
 
     /// How many variables are declared.
     pub fn count(&self) -> usize
-        ensures { result ≡ count_of self.now }
+        ensures count { result ≡ count_of self.now }
+        ensures few { result ≤ most_variables }
     {
         self.kinds.len()
     }
 
     /// A name that isn't known yet stands for this.
+    #[tactic(auto, using(crate::proofs::Names::kept_name))]
     pub fn insert(&mut self, name: &'t [u8], thing: Thing<'t>) -> Result<(), AllocError>
-        requires { is_some (found self.old.names name.now) ≡ false }
+        requires new { is_some (found self.old.names name.now) ≡ false }
+        requires variables { HasVariables (count_of self.old) (thing_of thing) }
         ensures ok { OnOk result (self.new.names ≡ self.old.names ++ (name.now, thing_of thing.entry) ∷ []) }
         ensures kinds { self.new.kinds ≡ self.old.kinds }
     {
@@ -80,7 +86,9 @@ impl<'t> Scope<'t> {
     }
 
     /// One more variable of this kind.
+    #[tactic(auto, using(crate::proofs::Names::kept_kind))]
     pub fn declare(&mut self, kind: VarKind) -> Result<(), AllocError>
+        requires { count_of self.old < most_variables }
         ensures ok { OnOk result (self.new.kinds ≡ self.old.kinds ++ kind ∷ []) }
         ensures names { self.new.names ≡ self.old.names }
     {

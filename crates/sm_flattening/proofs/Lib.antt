@@ -1,0 +1,5 @@
+pub mod Affine
+pub mod Constraints
+pub mod Lists
+pub mod Models
+pub mod Goals

@@ -1,0 +1,60 @@
+//! The flat model of what a text means: laws that both have the same solutions, and goals of the same worth. What
+//! makes the flat model of a text proves by them that it means the same.
+#![tactic(auto)]
+
+ghost use Rattle.std.specs.Prelude.{◌≡◌, ◌↔◌, ◌≤◌, ◌++◌, ℕ, ℤ, List, map, length, neg_ℤ, All};
+ghost use Rattle.sm_kinds.specs.declared.linear.Cmp.{Cmp};
+ghost use Rattle.sm_kinds.specs.declared.var.Var.{Var};
+ghost use Rattle.sm_flat.specs.declared.goal.Goal.{Goal};
+ghost use Rattle.sm_flat.specs.Forms.{Sat};
+ghost use Rattle.sm_flat.specs.Goals.{worth};
+ghost use Rattle.sm_flat.specs.Models.{FlatModel};
+ghost use Rattle.sm_flat.specs.Solutions.{Solves};
+ghost use Rattle.sm_data.specs.Documents.{Entry};
+ghost use Rattle.sm_syntax.specs.Trees.{Tree};
+ghost use Rattle.sm_forms.specs.declared.form.Form.{Form};
+ghost use Rattle.sm_forms.specs.Meanings.{Values, Meaning, constant_of, terms_of};
+ghost use Rattle.sm_forms.specs.Forms.{IsFormOf};
+ghost use Rattle.sm_meaning.specs.Demands.{Demand, Holds, point_of};
+ghost use Rattle.sm_meaning.specs.Expansions.{Expansion};
+ghost use Rattle.sm_meaning.specs.Models.{Means, expansion_of};
+ghost use Rattle.sm_flattening.specs.Flattening.{row_of, form_of, IsFlatOf, Meets, goal_numbers, meaning_numbers};
+ghost use Rattle.sm_flattening.specs.Regularity.{IsAffine, HasAffineRow, HasWholeLiterals, IsRegular, AreRegular};
+
+/// Laws of rows: a meaning that has a form is affine, and its row has the form's numbers. It has that row among more
+/// variables too.
+pub fn row_laws()
+    ensures affine { (n : ℕ) (g : Meaning) (f : Form) → IsFormOf n g f → IsAffine n g }
+    ensures numbers { (n : ℕ) (c : Cmp) (g : Meaning) (f : Form) → IsFormOf n g f →
+        row_of n c g ≡ record { terms = f.terms; cmp = c; bound = neg_ℤ f.constant } }
+    ensures wider { (m n : ℕ) (g : Meaning) → m ≤ n → IsAffine m g → IsAffine n g }
+    ensures same { (m n : ℕ) (g : Meaning) → m ≤ n → IsAffine m g → terms_of n g ≡ terms_of m g }
+{}
+
+/// Laws of one constraint: its flat form is satisfied exactly where it holds. Further variables leave its form as it
+/// is.
+pub fn constraint_laws()
+    ensures holds { (n : ℕ) (d : Demand) (a : Values) → HasAffineRow n d → HasWholeLiterals d a →
+        Sat (form_of n d) (point_of a) ↔ Holds d a }
+    ensures same { (m n : ℕ) (d : Demand) → m ≤ n → HasAffineRow m d → form_of n d ≡ form_of m d }
+    ensures wider { (vars more : List Var) (d : Demand) → IsRegular vars d → IsRegular (vars ++ more) d }
+{}
+
+/// Laws of models: values solve the flat model exactly where they meet the expansion, and so exactly where the text
+/// means them.
+pub fn model_laws()
+    ensures meets { (e : Expansion) (m : FlatModel) (a : Values) → AreRegular e → IsFlatOf e m →
+        Solves m (point_of a) ↔ Meets e a }
+    ensures means { (t : Tree) (tables : List Entry) (m : FlatModel) (a : Values) →
+        AreRegular (expansion_of t tables) → IsFlatOf (expansion_of t tables) m →
+        Solves m (point_of a) ↔ Means t tables a }
+{}
+
+/// Laws of goals: a goal with the numbers of an affine meaning is worth what that is.
+pub fn goal_laws()
+    ensures worth { (n : ℕ) (g : Meaning) (goal : Goal) (a : Values) → IsAffine n g →
+        goal_numbers goal ≡ meaning_numbers n g → worth goal (point_of a) ≡ g a }
+    ensures worths { (n : ℕ) (gs : List Meaning) (goals : List Goal) (a : Values) → All (IsAffine n) gs →
+        map goal_numbers goals ≡ map (meaning_numbers n) gs →
+        map (λ goal. worth goal (point_of a)) goals ≡ map (λ g. g a) gs }
+{}

@@ -13,14 +13,14 @@ use Rattle.sm_flat.specs.declared.form.Constraint.{Constraint}
 use Rattle.sm_flat.specs.declared.form.Form.{Form}
 use Rattle.sm_flat.specs.Forms.{Sat}
 use Rattle.sm_flat.specs.Models.{FlatModel}
-use Rattle.sm_flat.specs.Solutions.{Solves}
+use Rattle.sm_flat.specs.Solutions.{Solves, HasNoSolution}
 use Rattle.sm_data.specs.Documents.{Entry}
 use Rattle.sm_syntax.specs.Trees.{Tree}
 use Rattle.sm_forms.specs.Meanings.{Values}
 use Rattle.sm_meaning.specs.Demands.{Demand, row, formula, row_when, kind, Holds, point_of}
 use Rattle.sm_meaning.specs.Expansions.{Post, Declared, Expansion, vars_of}
 use Rattle.sm_meaning.specs.Models.{Means, expansion_of}
-use Rattle.sm_flattening.specs.Flattening.{form_of, IsFlatOf, Meets}
+use Rattle.sm_flattening.specs.Flattening.{form_of, IsFlattened, Meets}
 use Rattle.sm_flattening.specs.Regularity.{HasDiscreteLiterals, HasWholeLiterals, AreRegular}
 use Rattle.sm_flattening.proofs.Constraints.{demand_holds, each_literal}
 use Rattle.sm_flattening.proofs.Lists.{read_all, same_images}
@@ -78,47 +78,61 @@ module _ (e : Expansion) (a : Values) where
         subst (LiesAt i) (sym image) (fits i (get_or e.variables i no_declared) (slice_get-get_or e.variables i no_declared within));
   }
 
-  -- ---- the posts and the constraints
+-- ---- the posts and the constraints
 
+module _ (vars : List Var) (a : Values) where
   abbrev form_in : Post → Form
-  form_in p = form_of (length (vars_of e)) p.demand
+  form_in p = form_of (length vars) p.demand
 
-  -- where all values lie in their domains, the forms of the posts are satisfied exactly where these hold
-  posts_hold : AreRegular e → AllLie (vars_of e) a → All (λ (p : Post). Sat (form_in p) (point_of a)) e.posts ↔ All (λ (p : Post). Holds p.demand a) e.posts
-  posts_hold regular lie = ((λ h k d lt. (same k d lt).0 (h k d lt)), (λ h k d lt. (same k d lt).1 (h k d lt)))
+  -- where all values lie in their domains, the forms of posts are satisfied exactly where these hold
+  posts_hold : (ps : List Post) → AreRegular vars ps → AllLie vars a → All (λ (p : Post). Sat (form_in p) (point_of a)) ps ↔ All (λ (p : Post). Holds p.demand a) ps
+  posts_hold ps regular lie = ((λ h k d lt. (same k d lt).0 (h k d lt)), (λ h k d lt. (same k d lt).1 (h k d lt)))
     where
-      same : (k : ℕ) (d : Post) → k < length e.posts → Sat (form_in (get_or e.posts k d)) (point_of a) ↔ Holds (get_or e.posts k d).demand a
-      same k d lt = let r = regular k d lt in let demand = (get_or e.posts k d).demand in
-          demand_holds (length (vars_of e)) demand a r.affine (literals_whole (vars_of e) demand a lie r.discrete)
+      same : (k : ℕ) (d : Post) → k < length ps → Sat (form_in (get_or ps k d)) (point_of a) ↔ Holds (get_or ps k d).demand a
+      same k d lt = let r = regular k d lt in let demand = (get_or ps k d).demand in
+          demand_holds (length vars) demand a r.affine (literals_whole vars demand a lie r.discrete)
 
-  -- Both sides say that values lie in their domains. Then the constraints, read one by one, are those whose forms the posts
-  -- have, and each of these is satisfied exactly where its post holds.
-  pub solves_meets : (m : FlatModel) → AreRegular e → IsFlatOf e m → Solves m (point_of a) ↔ Meets e a
-  solves_meets m regular flat = (to, from)
-    where
-      satisfied : ((k : ℕ) (c : Constraint) → slice_get m.constraints k ≡ Some c → Sat c.form (point_of a)) ↔ All (λ (p : Post). Sat (form_in p) (point_of a)) e.posts
-      satisfied =
-          let read = read_all (λ (c : Constraint). Sat c.form (point_of a)) m.constraints in
-          let same = same_images (λ (f : Form). Sat f (point_of a)) (λ (c : Constraint). c.form) form_in m.constraints e.posts flat.forms in
-          ((λ h. same.0 (read.0 h)), (λ h. read.1 (same.1 h)))
+-- Both sides say that values lie in their domains. Then the constraints, read one by one, are those whose forms the posts
+-- have, and each of these is satisfied exactly where its post holds.
+pub solves_meets : (e : Expansion) (m : FlatModel) (a : Values) → IsFlattened e m.vars m.constraints → Solves m (point_of a) ↔ Meets e a
+solves_meets e m a flat = (to, from)
+  where
+    satisfied : ((k : ℕ) (c : Constraint) → slice_get m.constraints k ≡ Some c → Sat c.form (point_of a)) ↔ All (λ (p : Post). Sat (form_in m.vars a p) (point_of a)) e.posts
+    satisfied =
+        let read = read_all (λ (c : Constraint). Sat c.form (point_of a)) m.constraints in
+        let same = same_images (λ (f : Form). Sat f (point_of a)) (λ (c : Constraint). c.form) (form_in m.vars a) m.constraints e.posts flat.forms in
+        ((λ h. same.0 (read.0 h)), (λ h. read.1 (same.1 h)))
 
-      to : Solves m (point_of a) → Meets e a
-      to s =
-          let lie : AllLie m.vars a = record { at = s.fits.lies } in
-          let mine = subst (λ vars. AllLie vars a) flat.vars lie in
-          record { fits = declared_lie mine; holds = (posts_hold regular mine).0 (satisfied.0 s.satisfies) }
+    to : Solves m (point_of a) → Meets e a
+    to s =
+        let lie : AllLie m.vars a = record { at = s.fits.lies } in
+        record {
+          fits = declared_lie e a (subst (λ vars. AllLie vars a) flat.variables lie);
+          holds = (posts_hold m.vars a e.posts flat.regular lie).0 (satisfied.0 s.satisfies);
+        }
 
-      from : Meets e a → Solves m (point_of a)
-      from h =
-          let mine = all_lie h.fits in
-          let lie = subst (λ vars. AllLie vars a) (sym flat.vars) mine in
-          record {
-            fits = record { positive = a.positive; lies = lie.at };
-            satisfies = satisfied.1 ((posts_hold regular mine).1 h.holds);
-          }
+    from : Meets e a → Solves m (point_of a)
+    from h =
+        let lie = subst (λ vars. AllLie vars a) (sym flat.variables) (all_lie e a h.fits) in
+        record {
+          fits = record { positive = a.positive; lies = lie.at };
+          satisfies = satisfied.1 ((posts_hold m.vars a e.posts flat.regular lie).1 h.holds);
+        }
 
--- a text means just what its expansion is met by
-pub solves_means : (t : Tree) (tables : List Entry) (m : FlatModel) (a : Values) → AreRegular (expansion_of t tables) → IsFlatOf (expansion_of t tables) m → Solves m (point_of a) ↔ Means t tables a
-solves_means t tables m a regular flat =
-    let same = solves_meets (expansion_of t tables) a m regular flat in
-    ((λ s. let h = same.0 s in record { fits = h.fits; holds = h.holds }), (λ h. same.1 (record { fits = h.fits; holds = h.holds })))
+-- ---- texts
+
+module _ (t : Tree) (tables : List Entry) (m : FlatModel) (flat : IsFlattened (expansion_of t tables) m.vars m.constraints) where
+  -- a text means what its expansion is met by
+  pub solves_means : (a : Values) → Solves m (point_of a) ↔ Means t tables a
+  solves_means a =
+      let same = solves_meets (expansion_of t tables) m a flat in
+      ((λ s. let h = same.0 s in record { fits = h.fits; holds = h.holds }), (λ h. same.1 (record { fits = h.fits; holds = h.holds })))
+
+  -- each point that solves the model is that of some values
+  pub unsolved_means : HasNoSolution m ↔ ((a : Values) → Means t tables a → ⊥)
+  unsolved_means = (
+    (λ none a h. none (point_of a) ((solves_means a).1 h)),
+    (λ none p s.
+        let a : Values = record { denominator = p.denominator; numerator = p.numerator; positive = s.fits.positive } in
+        none a ((solves_means a).0 s)),
+  )

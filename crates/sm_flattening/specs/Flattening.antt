@@ -2,16 +2,17 @@
 use Rattle.std.specs.Prelude.{◌≡◌, ℕ, List, map, length, ℤ, neg_ℤ, false, All, Some, slice_get}
 use Rattle.sm_kinds.specs.declared.linear.Cmp.{Cmp}
 use Rattle.sm_kinds.specs.declared.linear.LinRow.{LinRow}
+use Rattle.sm_kinds.specs.declared.var.Var.{Var}
 use Rattle.sm_kinds.specs.Vars.{LiesIn}
 use Rattle.sm_flat.specs.declared.form.Constraint.{Constraint}
 use Rattle.sm_flat.specs.declared.form.Form.{Form}
 use Rattle.sm_flat.specs.declared.form.Form.TheVariants as form
 use Rattle.sm_flat.specs.declared.goal.Goal.{Goal}
-use Rattle.sm_flat.specs.Models.{FlatModel}
 use Rattle.sm_clausify.specs.Clauses.{clauses_of}
 use Rattle.sm_forms.specs.Meanings.{Values, Meaning, constant_of, terms_of}
 use Rattle.sm_meaning.specs.Demands.{Demand, row, formula, row_when, kind, Holds}
 use Rattle.sm_meaning.specs.Expansions.{Post, Declared, Expansion, vars_of}
+use Rattle.sm_flattening.specs.Regularity.{AreRegular}
 
 -- ---- constraints
 
@@ -28,18 +29,19 @@ form_of n (kind f) = f
 
 -- ---- models
 
--- the forms of a flat model, in order
-abbrev pub forms_in : FlatModel → List Form
-forms_in m = map (λ (c : Constraint). c.form) m.constraints
+-- the forms of constraints, in order
+abbrev pub forms_in : List Constraint → List Form
+forms_in cs = map (λ (c : Constraint). c.form) cs
 
--- the forms of what an expansion posts, in order
-abbrev pub forms_of : Expansion → List Form
-forms_of e = map (λ (p : Post). form_of (length (vars_of e)) p.demand) e.posts
+-- the forms of posts, in order, where there are n variables
+abbrev pub forms_of : ℕ → List Post → List Form
+forms_of n ps = map (λ (p : Post). form_of n p.demand) ps
 
--- the flat model has the variables of the expansion, and a form for each post
-pub record IsFlatOf (e : Expansion) (m : FlatModel) : Type 0 where
-  pub vars : m.vars ≡ vars_of e
-  pub forms : forms_in m ≡ forms_of e
+-- all that is posted can be flattened; the variables are those of the expansion, and the constraints have the forms of its posts
+pub record IsFlattened (e : Expansion) (vars : List Var) (constraints : List Constraint) : Type 0 where
+  pub regular : AreRegular vars e.posts
+  pub variables : vars ≡ vars_of e
+  pub forms : forms_in constraints ≡ forms_of (length vars) e.posts
 
 -- each variable has a value of its declared domain, and all that is posted holds
 pub record Meets (e : Expansion) (a : Values) : Type 0 where

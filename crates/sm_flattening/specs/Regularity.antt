@@ -8,7 +8,7 @@ use Rattle.sm_clausify.specs.Propositions.{EachLiteral}
 use Rattle.sm_clausify.specs.Truth.{IsWholeOn}
 use Rattle.sm_forms.specs.Meanings.{Values, Meaning, constant_of, terms_of}
 use Rattle.sm_meaning.specs.Demands.{Demand, row, formula, row_when, kind, point_of}
-use Rattle.sm_meaning.specs.Expansions.{Post, Expansion, vars_of}
+use Rattle.sm_meaning.specs.Expansions.{Post}
 
 -- the meaning is the sum of its terms, of n variables, and its constant
 pub record IsAffine (n : ℕ) (g : Meaning) : Type 0 where
@@ -40,6 +40,6 @@ pub record IsRegular (vars : List Var) (d : Demand) : Type 0 where
   pub affine : HasAffineRow (length vars) d
   pub discrete : HasDiscreteLiterals vars d
 
--- all that is posted can be flattened over the variables
-abbrev pub AreRegular : Expansion → Type 0
-AreRegular e = All (λ (p : Post). IsRegular (vars_of e) p.demand) e.posts
+-- all that is posted can be flattened over these variables
+abbrev pub AreRegular : List Var → List Post → Type 0
+AreRegular vars ps = All (λ (p : Post). IsRegular vars p.demand) ps

@@ -2,23 +2,26 @@
 //! makes the flat model of a text proves by them that it means the same.
 #![tactic(auto)]
 
-ghost use Rattle.std.specs.Prelude.{◌≡◌, ◌↔◌, ◌≤◌, ◌++◌, ℕ, ℤ, List, map, length, neg_ℤ, All};
+ghost use Rattle.std.specs.Prelude.{◌≡◌, ◌↔◌, ◌≤◌, ◌++◌, ℕ, ℤ, List, [], ◌∷◌, map, length, neg_ℤ, All};
 ghost use Rattle.sm_kinds.specs.declared.linear.Cmp.{Cmp};
 ghost use Rattle.sm_kinds.specs.declared.var.Var.{Var};
+ghost use Rattle.sm_flat.specs.declared.form.Constraint.{Constraint};
 ghost use Rattle.sm_flat.specs.declared.goal.Goal.{Goal};
 ghost use Rattle.sm_flat.specs.Forms.{Sat};
 ghost use Rattle.sm_flat.specs.Goals.{worth};
 ghost use Rattle.sm_flat.specs.Models.{FlatModel};
-ghost use Rattle.sm_flat.specs.Solutions.{Solves};
+ghost use Rattle.sm_flat.specs.Solutions.{Solves, HasNoSolution};
 ghost use Rattle.sm_data.specs.Documents.{Entry};
 ghost use Rattle.sm_syntax.specs.Trees.{Tree};
 ghost use Rattle.sm_forms.specs.declared.form.Form.{Form};
 ghost use Rattle.sm_forms.specs.Meanings.{Values, Meaning, constant_of, terms_of};
 ghost use Rattle.sm_forms.specs.Forms.{IsFormOf};
 ghost use Rattle.sm_meaning.specs.Demands.{Demand, Holds, point_of};
-ghost use Rattle.sm_meaning.specs.Expansions.{Expansion};
+ghost use Rattle.sm_meaning.specs.Scopes.{Thing};
+ghost use Rattle.sm_meaning.specs.Declarations.{with_variables};
+ghost use Rattle.sm_meaning.specs.Expansions.{Post, Declared, Expansion, beginning, with_name, with_posts};
 ghost use Rattle.sm_meaning.specs.Models.{Means, expansion_of};
-ghost use Rattle.sm_flattening.specs.Flattening.{row_of, form_of, IsFlatOf, Meets, goal_numbers, meaning_numbers};
+ghost use Rattle.sm_flattening.specs.Flattening.{row_of, form_of, forms_in, forms_of, IsFlattened, Meets, goal_numbers, meaning_numbers};
 ghost use Rattle.sm_flattening.specs.Regularity.{IsAffine, HasAffineRow, HasWholeLiterals, IsRegular, AreRegular};
 
 /// Laws of rows: a meaning that has a form is affine, and its row has the form's numbers. It has that row among more
@@ -43,11 +46,29 @@ pub fn constraint_laws()
 /// Laws of models: values solve the flat model exactly where they meet the expansion, and so exactly where the text
 /// means them.
 pub fn model_laws()
-    ensures meets { (e : Expansion) (m : FlatModel) (a : Values) → AreRegular e → IsFlatOf e m →
+    ensures meets { (e : Expansion) (m : FlatModel) (a : Values) → IsFlattened e m.vars m.constraints →
         Solves m (point_of a) ↔ Meets e a }
-    ensures means { (t : Tree) (tables : List Entry) (m : FlatModel) (a : Values) →
-        AreRegular (expansion_of t tables) → IsFlatOf (expansion_of t tables) m →
-        Solves m (point_of a) ↔ Means t tables a }
+    ensures means { (t : Tree) (tables : List Entry) (m : FlatModel) →
+        IsFlattened (expansion_of t tables) m.vars m.constraints →
+        (a : Values) → Solves m (point_of a) ↔ Means t tables a }
+    ensures unsolved { (t : Tree) (tables : List Entry) (m : FlatModel) →
+        IsFlattened (expansion_of t tables) m.vars m.constraints →
+        HasNoSolution m ↔ ((a : Values) → Means t tables a → ⊥) }
+{}
+
+/// Laws of steps: the variables and constraints so far stay those of the expansion, as names, variables and posts come.
+pub fn step_laws()
+    ensures begins { (tables : List Entry) → IsFlattened (beginning tables) [] [] }
+    ensures named { (e : Expansion) (vars : List Var) (cs : List Constraint) (name : List ℕ) (t : Thing) →
+        IsFlattened e vars cs → IsFlattened (with_name e name t) vars cs }
+    ensures declared { (e : Expansion) (vars : List Var) (cs : List Constraint) (ds : List Declared) →
+        IsFlattened e vars cs → IsFlattened (with_variables e ds) (vars ++ map (λ d. d.var) ds) cs }
+    ensures posted { (e : Expansion) (vars : List Var) (cs : List Constraint) (ps : List Post) (more : List Constraint) →
+        IsFlattened e vars cs → AreRegular vars ps → forms_in more ≡ forms_of (length vars) ps →
+        IsFlattened (with_posts e ps) vars (cs ++ more) }
+    ensures posted_one { (e : Expansion) (vars : List Var) (cs : List Constraint) (p : Post) (c : Constraint) →
+        IsFlattened e vars cs → IsRegular vars p.demand → c.form ≡ form_of (length vars) p.demand →
+        IsFlattened (with_posts e (p ∷ [])) vars (cs ++ c ∷ []) }
 {}
 
 /// Laws of goals: a goal with the numbers of an affine meaning is worth what that is.

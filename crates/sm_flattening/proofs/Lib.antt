@@ -4,3 +4,5 @@ pub mod Lists
 pub mod Models
 pub mod Steps
 pub mod Goals
+pub mod Counts
+mod Examples

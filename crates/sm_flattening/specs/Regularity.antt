@@ -1,10 +1,12 @@
 -- What lets a demand be flattened: rows are affine, and formulas speak of variables with whole values.
-use Rattle.std.specs.Prelude.{◌≡◌, ℕ, List, length, ◌+ℤ◌, ◌*ℤ◌, All}
+use Rattle.std.specs.Prelude.{◌≡◌, ℕ, ◌≤◌, List, length, ◌+ℤ◌, ◌*ℤ◌, false, All}
 use Rattle.sm_kinds.specs.declared.literal.Literal.{Literal}
 use Rattle.sm_kinds.specs.declared.var.Var.{Var}
+use Rattle.sm_kinds.specs.Limits.{most_clauses}
 use Rattle.sm_kinds.specs.Sums.{sum_at}
 use Rattle.sm_kinds.specs.Vars.{IsDiscrete}
 use Rattle.sm_clausify.specs.Propositions.{EachLiteral}
+use Rattle.sm_clausify.specs.Clauses.{clauses_of}
 use Rattle.sm_clausify.specs.Truth.{IsWholeOn}
 use Rattle.sm_forms.specs.Meanings.{Values, Meaning, constant_of, terms_of}
 use Rattle.sm_meaning.specs.Demands.{Demand, row, formula, row_when, kind, point_of}
@@ -43,3 +45,10 @@ pub record IsRegular (vars : List Var) (d : Demand) : Type 0 where
 -- all that is posted can be flattened over these variables
 abbrev pub AreRegular : List Var → List Post → Type 0
 AreRegular vars ps = All (λ (p : Post). IsRegular vars p.demand) ps
+
+-- the clauses of a formula are within their limit
+abbrev pub HasFewClauses : Demand → Type 0
+HasFewClauses (row c g) = Unit {0}
+HasFewClauses (formula q) = length (clauses_of q false) ≤ most_clauses
+HasFewClauses (row_when ls c g) = Unit {0}
+HasFewClauses (kind f) = Unit {0}

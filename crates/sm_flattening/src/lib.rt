@@ -7,7 +7,9 @@ ghost use Rattle.sm_kinds.specs.declared.linear.Cmp.{Cmp};
 ghost use Rattle.sm_kinds.specs.declared.var.Var.{Var};
 ghost use Rattle.sm_flat.specs.declared.form.Constraint.{Constraint};
 ghost use Rattle.sm_flat.specs.declared.goal.Goal.{Goal};
-ghost use Rattle.sm_flat.specs.Forms.{Sat};
+ghost use Rattle.sm_flat.specs.Forms as flat;
+ghost use Rattle.sm_flat.specs.Forms.{Sat, kind_of};
+ghost use Rattle.sm_flat.specs.Limits as flat_limit;
 ghost use Rattle.sm_flat.specs.Goals.{worth};
 ghost use Rattle.sm_flat.specs.Models.{FlatModel};
 ghost use Rattle.sm_flat.specs.Solutions.{Solves, HasNoSolution};
@@ -17,12 +19,14 @@ ghost use Rattle.sm_forms.specs.declared.form.Form.{Form};
 ghost use Rattle.sm_forms.specs.Meanings.{Values, Meaning, constant_of, terms_of};
 ghost use Rattle.sm_forms.specs.Forms.{IsFormOf};
 ghost use Rattle.sm_meaning.specs.Demands.{Demand, Holds, point_of};
-ghost use Rattle.sm_meaning.specs.Scopes.{Thing};
+ghost use Rattle.sm_meaning.specs.Scopes.{Thing, Scope};
+ghost use Rattle.sm_meaning.specs.Limits as limit;
+ghost use Rattle.sm_meaning.specs.Limits.{term_count};
 ghost use Rattle.sm_meaning.specs.Declarations.{with_variables};
 ghost use Rattle.sm_meaning.specs.Expansions.{Post, Declared, Expansion, beginning, with_name, with_posts};
-ghost use Rattle.sm_meaning.specs.Models.{Means, expansion_of};
+ghost use Rattle.sm_meaning.specs.Models.{Means, expansion_of, demand_kind};
 ghost use Rattle.sm_flattening.specs.Flattening.{row_of, form_of, forms_in, forms_of, IsFlattened, Meets, goal_numbers, meaning_numbers};
-ghost use Rattle.sm_flattening.specs.Regularity.{IsAffine, HasAffineRow, HasWholeLiterals, IsRegular, AreRegular};
+ghost use Rattle.sm_flattening.specs.Regularity.{IsAffine, HasAffineRow, HasWholeLiterals, IsRegular, AreRegular, HasFewClauses};
 
 /// Laws of rows: a meaning that has a form is affine, and its row has the form's numbers. It has that row among more
 /// variables too.
@@ -78,4 +82,13 @@ pub fn goal_laws()
     ensures worths { (n : ℕ) (gs : List Meaning) (goals : List Goal) (a : Values) → All (IsAffine n) gs →
         map goal_numbers goals ≡ map (meaning_numbers n) gs →
         map (λ goal. worth goal (point_of a)) goals ≡ map (λ g. g a) gs }
+{}
+
+/// Laws of counts: what limits count of a demand is what they count of its flat form.
+pub fn count_laws()
+    ensures kind { (n : ℕ) (d : Demand) → kind_of (form_of n d) ≡ demand_kind d }
+    ensures terms { (n : ℕ) (g : Meaning) → length (terms_of n g) ≡ term_count n g }
+    ensures size { (n : ℕ) (d : Demand) → HasFewClauses d → flat.size_of (form_of n d) ≡ limit.size_of n d }
+    ensures reals { (vars : List Var) (s : Scope) (n : ℕ) (g : Meaning) → s.kinds ≡ map (λ v. v.kind) vars →
+        flat_limit.has_real vars (terms_of n g) ≡ limit.has_real s n g }
 {}

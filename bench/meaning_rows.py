@@ -3,7 +3,14 @@
 to be shown by computing. The texts and what is expected of them stand in ROWS, by hand from the language.
 
     python3 bench/meaning_rows.py
+    python3 bench/meaning_rows.py --drawn COUNT [SEED]
+
+The second writes rows of drawn texts in their place, of which bench/expand_text.py says what is expected; `rt check sm_meaning`
+then compares the two. The first brings the rows by hand back.
 """
+import sys
+
+import drawn_texts
 import model_text
 
 # A text; its tables, each a number, a list or a list of lists; and what is expected: 'refused LINE COLUMN Word', 'limit Word
@@ -367,8 +374,10 @@ def expected(number_, words, shown, named):
 
 
 def main():
+    drawn = sys.argv[1:2] == ["--drawn"]
+    rows = drawn_texts.rows(int(sys.argv[2]), int(sys.argv[3]) if len(sys.argv) > 3 else 7) if drawn else ROWS
     out = [HEAD]
-    for k, (text, named, want) in enumerate(ROWS):
+    for k, (text, named, want) in enumerate(rows):
         words = want.split()
         shown = tables(named)
         out.append(f"-- {text}" + (f"   with {named}" if named else ""))

@@ -1,12 +1,12 @@
 -- Short words for the rows.
-use Rattle.std.specs.Prelude.{ℕ, zero, suc, List, [], ◌∷◌, ◌++◌, ℤ, Option, Some, None}
+use Rattle.std.specs.Prelude.{ℕ, zero, suc, List, [], ◌∷◌, ◌++◌, ℤ, Option, Some, None, slice_get}
 use Rattle.sm_syntax.specs.declared.place.Place.{Place}
 use Rattle.sm_syntax.specs.declared.tree.Name.{Name}
 use Rattle.sm_syntax.specs.declared.tree.Number.{Number}
 use Rattle.sm_syntax.specs.declared.tree.Bind.{Bind}
 use Rattle.sm_forms.specs.Meanings.{Meaning, coefficient, constant_of}
 use Rattle.sm_meaning.specs.Demands.{Demand, row, formula, row_when, kind}
-use Rattle.sm_meaning.specs.Expansions.{Post}
+use Rattle.sm_meaning.specs.Expansions.{Expansion, Post}
 
 abbrev pub at : ℕ → ℕ → Place
 at line column = record { line = line; column = column }

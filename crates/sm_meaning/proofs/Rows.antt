@@ -1,5 +1,9 @@
 -- The definitions on small texts. Written by bench/meaning_rows.py: what is expected is by hand.
-use Rattle.std.proofs.Common.{◌≡◌, refl, codes, [], ◌∷◌, length, slice_get, true, false, pos, negsuc, Some, None}
+use Rattle.std.proofs.Common.{◌≡◌, refl, codes, ℕ, List, [], ◌∷◌, length, slice_get, true, false, pos, negsuc, Some, None}
+use Rattle.sm_syntax.specs.declared.place.Place.{Place}
+use Rattle.sm_syntax.specs.declared.tree.Name.{Name}
+use Rattle.sm_syntax.specs.declared.tree.Number.{Number}
+use Rattle.sm_syntax.specs.declared.tree.Bind.{Bind}
 use Rattle.sm_syntax.specs.declared.tree.Sign.TheVariants as sign
 use Rattle.sm_syntax.specs.declared.tree.Relation.TheVariants as relation
 use Rattle.sm_syntax.specs.declared.tree.LitRelation.TheVariants as test
@@ -7,14 +11,20 @@ use Rattle.sm_syntax.specs.declared.tree.Cmp.TheVariants as cmp
 use Rattle.sm_syntax.specs.declared.tree.Choosing.TheVariants as choosing
 use Rattle.sm_syntax.specs.declared.tree.Level.TheVariants as level
 use Rattle.sm_syntax.specs.declared.tree.Relaxing.TheVariants as relaxing
+use Rattle.sm_syntax.specs.declared.tree.Picking.TheVariants as picking
+use Rattle.sm_syntax.specs.declared.tree.Splitting.TheVariants as splitting
 use Rattle.sm_syntax.specs.declared.formula.Quantifier.TheVariants as quantifier
 use Rattle.sm_syntax.specs.Expressions as x
 use Rattle.sm_syntax.specs.Formulas as f
 use Rattle.sm_syntax.specs.Trees as t
 use Rattle.sm_data.specs.declared.table.Table.TheVariants as table
 use Rattle.sm_data.specs.declared.refusal.Counted.TheVariants as counted
+use Rattle.sm_data.specs.Documents.{Entry}
+use Rattle.sm_forms.specs.Meanings.{coefficient, constant_of}
 use Rattle.sm_meaning.specs.declared.refusal.Wrong.TheVariants as wrong
 use Rattle.sm_meaning.specs.declared.refusal.ExpandRefusal.TheVariants.{Meaning, Limit}
+use Rattle.sm_meaning.specs.Demands.{Demand, row}
+use Rattle.sm_meaning.specs.Expansions.{Expansion, Post}
 use Rattle.sm_meaning.specs.Models.{expansion_of, refusal_in}
 use Rattle.sm_meaning.proofs.RowParts.{at, name_at, number_at, bind_at, numbers_of_row}
 
@@ -503,7 +513,7 @@ row_61 = t.tree (at 1 1) ((t.var_item (at 1 1) (name_at 1 5 (codes "x")) ([]) (t
 shown_61 : refusal_in row_61 ([]) ≡ Some (Meaning 1 62 wrong.Whole)
 shown_61 = refl
 
--- var x : set 0..1; minimise 2147483649*x;
+-- var x : set 0..1; minimise 2147483649*x; 
 abbrev row_62 : t.Tree
 row_62 = t.tree (at 1 1) ((t.var_item (at 1 1) (name_at 1 5 (codes "x")) ([]) (t.set_kind (at 1 9) (t.range (x.expression (at 1 13) false (x.product (at 1 13) (x.number (at 1 13) (number_at 1 13 0)) x.no_operands) x.no_addends) (x.expression (at 1 16) false (x.product (at 1 16) (x.number (at 1 16) (number_at 1 16 1)) x.no_operands) x.no_addends)))) ∷ []) (t.aims (at 1 19) (t.minimise (at 1 19) (x.expression (at 1 28) false (x.product (at 1 28) (x.number (at 1 28) (number_at 1 28 2147483649)) (x.times (x.named (at 1 39) (name_at 1 39 (codes "x")) x.no_expressions) x.no_operands)) x.no_addends)) ([]))
 

@@ -8,6 +8,7 @@ to be shown by computing. The texts and what is expected of them stand in ROWS, 
 The second writes rows of drawn texts in their place, of which bench/expand_text.py says what is expected; `rt check sm_meaning`
 then compares the two. The first brings the rows by hand back.
 """
+import subprocess
 import sys
 
 import drawn_texts
@@ -393,6 +394,7 @@ def main():
         f.write(parts[:a] + parts[b:] + "\n" + parts[a:b].rstrip() + "\n")
     with open("crates/sm_meaning/proofs/Lib.antt", "w") as f:
         f.write("pub mod RowParts\npub mod Rows\npub mod Steps\n")
+    subprocess.run(["rt", "fmt"], cwd="crates/sm_meaning", check=True, stdout=subprocess.DEVNULL)
 
 
 main()

@@ -513,7 +513,7 @@ row_61 = t.tree (at 1 1) ((t.var_item (at 1 1) (name_at 1 5 (codes "x")) ([]) (t
 shown_61 : refusal_in row_61 ([]) ≡ Some (Meaning 1 62 wrong.Whole)
 shown_61 = refl
 
--- var x : set 0..1; minimise 2147483649*x; 
+-- var x : set 0..1; minimise 2147483649*x;
 abbrev row_62 : t.Tree
 row_62 = t.tree (at 1 1) ((t.var_item (at 1 1) (name_at 1 5 (codes "x")) ([]) (t.set_kind (at 1 9) (t.range (x.expression (at 1 13) false (x.product (at 1 13) (x.number (at 1 13) (number_at 1 13 0)) x.no_operands) x.no_addends) (x.expression (at 1 16) false (x.product (at 1 16) (x.number (at 1 16) (number_at 1 16 1)) x.no_operands) x.no_addends)))) ∷ []) (t.aims (at 1 19) (t.minimise (at 1 19) (x.expression (at 1 28) false (x.product (at 1 28) (x.number (at 1 28) (number_at 1 28 2147483649)) (x.times (x.named (at 1 39) (name_at 1 39 (codes "x")) x.no_expressions) x.no_operands)) x.no_addends)) ([]))
 

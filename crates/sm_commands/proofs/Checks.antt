@@ -9,7 +9,7 @@ use Rattle.sm_step.specs.declared.verdict.Verdict.{Verdict}
 use Rattle.sm_step.specs.Text.{verdict_text, text_of}
 use Rattle.sm_rules.specs.declared.cause.Cause.{Cause}
 use Rattle.sm_rules.proofs.Kept.{of_start}
-use Rattle.sm_search.specs.declared.ending.Ending.{Ending}
+use Rattle.sm_search.specs.declared.solved.Solved.{Solved}
 use Rattle.sm_search.specs.Went.{texts}
 use Rattle.sm_search.specs.Turns.{HasSolved}
 use Rattle.sm_check.specs.Replays.{FailsAt}
@@ -89,24 +89,22 @@ says_of_check given files e status some fact = rw some fact
 
 -- ---- the log of a search
 
-pub put_log : (m : FlatModel) (e : Effects) (ending : Ending) → HasSolved m e.put_before e.put_now ending → HasPutLog m e ending
-put_log m e ending solved =
+pub put_log : (m : FlatModel) (e : Effects) (s : Solved) → HasSolved m e.put_before e.put_now s → HasPutLog m e s.verdict
+put_log m e s solved =
     let of = of_start m solved.flat in
     let went = solved.went in
-    let ended = solved.ended in
     record {
       log = texts went.put;
       put = went.told;
-      verdict = ended.verdict;
       proves = record {
         ends = record {
           lines = went.put;
           state = solved.place.state;
           replays = record { each = went.each; text = cut_lines went.put went.each; runs = went.runs };
-          verdict = ended.stands;
+          verdict = solved.stands;
         };
-        holds = solved.holds;
-        named = λ s within final. log_is_true_on m s went.put solved.place.state ended.verdict of within went.runs ended.stands final;
+        holds = rw solved.best solved.holds;
+        named = λ t within final. log_is_true_on m t went.put solved.place.state s.verdict of within went.runs solved.stands final;
       };
-      ends = ended.ends;
+      decided = solved.decided;
     }

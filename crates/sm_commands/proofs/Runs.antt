@@ -9,8 +9,9 @@ use Rattle.sm_kinds.specs.declared.var.Var.{Var}
 use Rattle.sm_kinds.specs.declared.var.VarKind.TheVariants.{Set, Real}
 use Rattle.early_model.specs.EarlyModels.{IsEarlyModel, AreSets}
 use Rattle.sm_search.specs.Refusals.{HasReal}
-use Rattle.sm_search.specs.declared.ending.Ending.{Ending}
-use Rattle.sm_search.specs.declared.ending.Ending.TheVariants.{Optimal, Satisfied, Infeasible}
+use Rattle.sm_search.specs.declared.solved.Solved.{Solved}
+use Rattle.sm_step.specs.declared.verdict.Verdict.{Verdict}
+use Rattle.sm_step.specs.declared.verdict.Verdict.TheVariants.{Optimal, Satisfied, Infeasible, Limit, Range}
 use Rattle.sm_search.specs.declared.refusal.WorkRefusal.{WorkRefusal}
 use Rattle.sm_search.specs.declared.refusal.WorkRefusal.TheVariants as refusal
 use Rattle.sm_search.specs.declared.running.Halt.{Halt}
@@ -19,7 +20,7 @@ use Rattle.sm_search.specs.Turns.{HasSolved}
 use Rattle.sm_commands.proofs.Checks.{put_log}
 use Rattle.sm_commands.specs.declared.stop.Stop.{Stop}
 use Rattle.sm_commands.specs.declared.stop.Stop.TheVariants.{Usage, ReadFault, TooLarge, Early, TooLong, Work, OutOfMemory}
-use Rattle.sm_commands.specs.Runs.{Given, Effects, model_of, IsSolved, IsStopped, IsStop, IsLoadCause, StopsBy, HasNoModel, IsTooLong, PutLine, stop_line, IsReported, ending_status, refusal_status, IsFound, IsUnput, SaysOfSolve}
+use Rattle.sm_commands.specs.Runs.{Given, Effects, model_of, IsSolved, IsStopped, IsStop, IsLoadCause, StopsBy, HasNoModel, IsTooLong, PutLine, stop_line, IsReported, verdict_status, refusal_status, IsFound, IsUnput, SaysOfSolve}
 
 -- ---- what was put
 
@@ -38,8 +39,8 @@ rose_later a b c le rose = omega arith
 
 -- ---- the parts of a run
 
-pub solved_of : (given : Given) (e : Effects) (name : List ℕ) (m : FlatModel) (ending : Ending) → model_of given.words ≡ Some name → IfSome (given.held name) (λ text. IsEarlyModel text m) → HasSolved m e.put_before e.put_now ending → IsSolved given e ending
-solved_of given e name m ending asked holds solved = record { model = m; text = record { name = name; asked = asked; holds = holds }; solved = put_log m e ending solved }
+pub solved_of : (given : Given) (e : Effects) (name : List ℕ) (m : FlatModel) (s : Solved) → model_of given.words ≡ Some name → IfSome (given.held name) (λ text. IsEarlyModel text m) → HasSolved m e.put_before e.put_now s → IsSolved given e s.verdict
+solved_of given e name m s asked holds solved = record { model = m; text = record { name = name; asked = asked; holds = holds }; solved = put_log m e s solved }
 
 pub stop_of_load : (given : Given) (e : Effects) (name : List ℕ) (s : Stop) → model_of given.words ≡ Some name → IsLoadCause (given.held name) e.read_before e.read_now s → Appends e.put_before e.put_now [] → IsStop given e s
 stop_of_load given e name Usage asked cause put = absurd cause
@@ -98,10 +99,12 @@ says_early given e status is none put = inr (inr (inr (inr (inr (inr (inr (is, n
 
 -- ---- the whole run
 
-pub says_solved : (given : Given) (e : Effects) (ending : Ending) (status : ℕ) → status ≡ ending_status ending → IsSolved given e ending → SaysOfSolve given e status
-says_solved given e Optimal status is solved = says_found given e status is (record { ending = Optimal; finds = tt; solved = solved })
-says_solved given e Satisfied status is solved = says_found given e status is (record { ending = Satisfied; finds = tt; solved = solved })
+pub says_solved : (given : Given) (e : Effects) (v : Verdict) (status : ℕ) → status ≡ verdict_status v → IsSolved given e v → SaysOfSolve given e status
+says_solved given e (Optimal values) status is solved = says_found given e status is (record { verdict = Optimal values; finds = tt; solved = solved })
+says_solved given e Satisfied status is solved = says_found given e status is (record { verdict = Satisfied; finds = tt; solved = solved })
 says_solved given e Infeasible status is solved = inr (inl (is, solved))
+says_solved given e (Limit nodes bound best) status is solved = absurd solved.solved.decided
+says_solved given e (Range bound best) status is solved = absurd solved.solved.decided
 
 -- the effects of the first part of a run
 abbrev first_part : Effects → Option (List ℕ) → ℕ → Effects

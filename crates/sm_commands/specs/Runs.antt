@@ -6,13 +6,12 @@ use Rattle.sm_base.specs.Causes.{Rose}
 use Rattle.sm_base.specs.Bytes.{AppendsFront}
 use Rattle.sm_flat.specs.Models.{FlatModel}
 use Rattle.early_model.specs.EarlyModels.{IsEarlyModel}
-use Rattle.sm_search.specs.declared.ending.Ending.{Ending}
-use Rattle.sm_search.specs.declared.ending.Ending.TheVariants.{Optimal, Satisfied, Infeasible}
 use Rattle.sm_search.specs.declared.refusal.WorkRefusal.{WorkRefusal}
 use Rattle.sm_search.specs.declared.refusal.WorkRefusal.TheVariants as refusal
 use Rattle.sm_search.specs.Went.{begin, Stopped}
-use Rattle.sm_search.specs.Turns.{IsVerdictOf}
+use Rattle.sm_search.specs.Turns.{IsDecided}
 use Rattle.sm_step.specs.declared.verdict.Verdict.{Verdict}
+use Rattle.sm_step.specs.declared.verdict.Verdict.TheVariants.{Optimal, Satisfied, Infeasible, Limit, Range}
 use Rattle.sm_base.specs.Whole.{whole_text}
 use Rattle.sm_step.specs.declared.line.Line.{Line}
 use Rattle.sm_step.specs.declared.line.Line.TheVariants as line
@@ -83,19 +82,18 @@ pub record Effects : Type 0 where
   pub put_before : Option (List ℕ)
   pub put_now : Option (List ℕ)
 
--- the bytes that were put are a log of the model that proves a verdict of this ending
-pub record HasPutLog (m : FlatModel) (e : Effects) (ending : Ending) : Type 0 where
+-- the bytes that were put are a log of the model that proves this verdict
+pub record HasPutLog (m : FlatModel) (e : Effects) (verdict : Verdict) : Type 0 where
   pub log : List ℕ
   pub put : Appends e.put_before e.put_now log
-  pub verdict : Verdict
   pub proves : Proves m log verdict
-  pub ends : IsVerdictOf ending verdict
+  pub decided : IsDecided verdict
 
--- the model is the text's, and a log of it was put that proves a verdict of this ending
-pub record IsSolved (given : Given) (e : Effects) (ending : Ending) : Type 0 where
+-- the model is the text's, and a log of it was put that proves this verdict
+pub record IsSolved (given : Given) (e : Effects) (verdict : Verdict) : Type 0 where
   pub model : FlatModel
   pub text : OfText given (λ text. IsEarlyModel text model)
-  pub solved : HasPutLog model e ending
+  pub solved : HasPutLog model e verdict
 
 -- the model is the text's, and a search of it stopped after some lines, each allowed in its turn, and nothing or a front of one more
 pub record IsStopped (given : Given) (e : Effects) (r : WorkRefusal) : Type 0 where
@@ -148,10 +146,12 @@ refusal_status refusal.WriteFault = 11
 refusal_status refusal.LogTooLong = 8
 refusal_status refusal.OutOfMemory = 12
 
-abbrev pub ending_status : Ending → ℕ
-ending_status Optimal = 0
-ending_status Satisfied = 0
-ending_status Infeasible = 1
+abbrev pub verdict_status : Verdict → ℕ
+verdict_status (Optimal values) = 0
+verdict_status Satisfied = 0
+verdict_status Infeasible = 1
+verdict_status (Limit nodes bound best) = 2
+verdict_status (Range bound best) = 3
 
 -- the line was put and the status is its own, or a put failed after a front of it, and the status is 11
 abbrev pub IsTold : List ℕ → ℕ → Option (List ℕ) → Option (List ℕ) → ℕ → ℕ → ℕ → Type 0
@@ -169,17 +169,17 @@ IsReported OutOfMemory = IsTold (codes "error memory\n") 12
 
 -- ---- statuses
 
--- a search that ends with a solution
-abbrev pub FindsOne : Ending → Type 0
-FindsOne Optimal = Unit {0}
+-- the verdict says that there is a solution that answers the model
+abbrev pub FindsOne : Verdict → Type 0
+FindsOne (Optimal values) = Unit {0}
 FindsOne Satisfied = Unit {0}
-FindsOne Infeasible = ⊥
+FindsOne _ = ⊥
 
 -- the log ends in `optimal` or `satisfied`
 pub record IsFound (given : Given) (e : Effects) : Type 0 where
-  pub ending : Ending
-  pub finds : FindsOne ending
-  pub solved : IsSolved given e ending
+  pub verdict : Verdict
+  pub finds : FindsOne verdict
+  pub solved : IsSolved given e verdict
 
 -- a put failed, after some front of a log, or of the line that says why there is none
 pub record IsUnput (given : Given) (e : Effects) : Type 0 where

@@ -3,14 +3,15 @@ ghost use Rattle.std.specs.Prelude.{◌≡◌, ◌≤◌, ◌⊎◌, ℕ, List, 
 ghost use Rattle.std.specs.Option.{option_copied};
 ghost use Rattle.early_model.specs.EarlyModels.{IsEarlyModel, AreSets};
 ghost use Rattle.sm_commands.specs.declared.stop.Stop.TheVariants.{Usage as Misused};
-ghost use Rattle.sm_commands.specs.Runs.{is_file, model_of, checked_of, IsSolved, IsStop, IsLoadCause, StopsBy, IsTold, IsReported, ending_status, SaysOfSolve, SaysOfCheck, Says};
+ghost use Rattle.sm_commands.specs.Runs.{is_file, model_of, checked_of, IsSolved, IsStop, IsLoadCause, StopsBy, IsTold, IsReported, verdict_status, SaysOfSolve, SaysOfCheck, Says};
 
 use crate::checking::{answer, checked_of};
 use crate::stop::Stop;
 use early_model::read;
 use sm_base::{ReadRefusal, Shelf, Sink, put_all, read_all};
 use sm_flat::Flat;
-use sm_search::{Ending, Halt, SolveRefusal, WorkRefusal, solve};
+use sm_search::{Halt, SolveRefusal, Solved, WorkRefusal, solve};
+use sm_step::Verdict;
 use std::alloc::Global;
 
 /// How many bytes a model file has at most.
@@ -80,15 +81,15 @@ fn work<F: Shelf, S: Sink>(
     words: &[String],
     shelf: &mut F,
     out: &mut S,
-) -> Result<Ending, Stop>
-    ensures solved { IfOk result (IsSolved (record { words = map string_bytes words.now; held = F.held shelf.old }) (record {
+) -> Result<Solved, Stop>
+    ensures solved { IfOk result (λ s. IsSolved (record { words = map string_bytes words.now; held = F.held shelf.old }) (record {
       read_before = F.faults shelf.old;
       read_now = F.faults shelf.new;
       write_before = S.faults out.old;
       write_now = S.faults out.new;
       put_before = S.written out.old;
       put_now = S.written out.new;
-    })) }
+    }) s.verdict) }
     ensures stopped { IfErr result (IsStop (record { words = map string_bytes words.now; held = F.held shelf.old }) (record {
       read_before = F.faults shelf.old;
       read_now = F.faults shelf.new;
@@ -105,7 +106,7 @@ fn work<F: Shelf, S: Sink>(
     };
     let flat = load(alloc, shelf, name)?;
     match solve(alloc, &flat, out) {
-        Ok(ending) => Ok(ending),
+        Ok(solved) => Ok(solved),
         Err(SolveRefusal::Halted(halt)) => Err(stop_of(halt)),
         // No variable of an early model is real.
         Err(SolveRefusal::RealVariable) => unreachable!(),
@@ -139,13 +140,15 @@ fn report<S: Sink>(out: &mut S, stop: Stop) -> u8
     }
 }
 
-/// The status of a search that came to a verdict.
-fn status_of(ending: Ending) -> u8
-    ensures { result ≡ ending_status ending }
+/// The status of a search that came to a verdict. As yet none comes to a limit or a range.
+fn status_of(verdict: &Verdict) -> u8
+    ensures { result ≡ verdict_status verdict.now }
 {
-    match ending {
-        Ending::Optimal | Ending::Satisfied => 0,
-        Ending::Infeasible => 1,
+    match verdict {
+        Verdict::Optimal { .. } | Verdict::Satisfied => 0,
+        Verdict::Infeasible => 1,
+        Verdict::Limit { .. } => 2,
+        Verdict::Range { .. } => 3,
     }
 }
 
@@ -163,7 +166,7 @@ fn solved<F: Shelf, S: Sink>(alloc: Global, words: &[String], shelf: &mut F, out
     ensures usage { model_of (map string_bytes words.now) ≡ None → (result ≡ 5) ⊎ (result ≡ 11) }
 {
     match work(alloc, words, shelf, out) {
-        Ok(ending) => status_of(ending),
+        Ok(solved) => status_of(&solved.verdict),
         Err(stop) => report(out, stop),
     }
 }

@@ -29,6 +29,18 @@ impl Model for Flat {
 }
 
 impl Flat {
+    /// The model of these parts, which are within all limits and fit each other.
+    pub fn of(vars: Vec<Var>, constraints: Vec<Constraint>, goals: Vec<Goal>) -> Flat
+        requires { IsFlat (record { vars = vars.items; constraints = constraints.items; goals = goals.items }) }
+        ensures { result ≡ record { vars = vars.items; constraints = constraints.items; goals = goals.items } }
+    {
+        Flat {
+            vars,
+            constraints,
+            goals,
+        }
+    }
+
     /// The model of these parts, where they are within all limits and fit each other.
     pub fn new(vars: Vec<Var>, constraints: Vec<Constraint>, goals: Vec<Goal>) -> Option<Flat>
         ensures variant { IsSome result ↔ IsFlat (record { vars = vars.items; constraints = constraints.items; goals = goals.items }) }
@@ -43,11 +55,7 @@ impl Flat {
         if !are_goals(vars.as_slice(), goals.as_slice()) {
             return None;
         }
-        Some(Flat {
-            vars,
-            constraints,
-            goals,
-        })
+        Some(Flat::of(vars, constraints, goals))
     }
 
     /// The variables, by number.

@@ -118,7 +118,7 @@ pub(crate) fn is_constraint(vars: &[Var], constraint: &Constraint) -> bool
 }
 
 /// What is left of a count without the terms, literals and members of tables of a form.
-pub(crate) fn spend(form: &Form, left: u64) -> Option<u64>
+pub fn spend(form: &Form, left: u64) -> Option<u64>
     ensures variant { IsSome result ↔ (size_of form.now ≤ left) }
     ensures value { IfSome result (λ r. r + size_of form.now ≡ left) }
 {

@@ -13,7 +13,7 @@ mod tags;
 
 pub use assignment::{Assignment, is_assignment};
 pub use flat::Flat;
-pub use form::{Constraint, Form, Kind, kind_of};
+pub use form::{Constraint, Form, Kind, kind_of, spend};
 pub use goal::{Goal, Sense, value};
 pub use sm_kinds::{
     Choice, Clause, Cmp, Entry, Item, LinRow, Literal, Packing, Task, Test, Values, Var, VarKind,

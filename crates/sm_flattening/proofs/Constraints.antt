@@ -57,7 +57,7 @@ module _ (P Q : Literal → Type 0) (weaker : (l : Literal) → P l → Q l) whe
     each_of_all no_parts h = tt
     each_of_all (part q qs) h = (each_literal q h.0, each_of_all qs h.1)
 
-discrete_wider : (vars more : List Var) (v : ℕ) → IsDiscrete vars v → IsDiscrete (vars ++ more) v
+pub discrete_wider : (vars more : List Var) (v : ℕ) → IsDiscrete vars v → IsDiscrete (vars ++ more) v
 discrete_wider vars more v h = record {
   known = omega (arith, h.known, length-append vars more);
   kind = subst (λ (x : Var). x.kind ≢ Real) (sym (get_or_append_left vars more no_var v h.known)) h.kind;

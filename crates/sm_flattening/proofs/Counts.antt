@@ -5,7 +5,7 @@ use Rattle.std.specs.List.{list_any}
 use Rattle.std.specs.Ordering.{int_eq}
 use Rattle.std.proofs.Math.ListN.{get_or-map}
 use Rattle.std.proofs.lemmas.Grind.{common_steps}
-use Rattle.std.proofs.lemmas.List.{length-append}
+use Rattle.std.proofs.lemmas.List.{length-append, length-map}
 use Rattle.std.proofs.lemmas.List.Folds.{list_any-append}
 use Rattle.sm_kinds.specs.declared.var.Var.{Var}
 use Rattle.sm_kinds.specs.declared.var.VarKind.{VarKind}
@@ -17,7 +17,7 @@ use Rattle.sm_flat.specs.Forms as flat
 use Rattle.sm_flat.specs.Limits as flat_limits
 use Rattle.sm_clausify.specs.Clauses.{clauses_of}
 use Rattle.sm_forms.specs.Meanings.{Meaning, coefficient, terms_of}
-use Rattle.sm_meaning.specs.Scopes.{Scope}
+use Rattle.sm_meaning.specs.Scopes.{Scope, count_of}
 use Rattle.sm_meaning.specs.Cases.{kind_at}
 use Rattle.sm_meaning.specs.Demands.{Demand, row, formula, row_when, kind}
 use Rattle.sm_meaning.specs.Limits.{term_count, size_of, formula_size, has_real}
@@ -61,7 +61,10 @@ size_same n (kind f) few = refl
 -- ---- real variables
 
 module _ (vars : List Var) (s : Scope) (kinds : s.kinds ≡ map (λ (v : Var). v.kind) vars) where
-  kind_is : (k : ℕ) → (var_at vars k).kind ≡ kind_at s k
+  pub count_is : count_of s ≡ length vars
+  count_is = ap length kinds ∙ length-map vars (λ (v : Var). v.kind)
+
+  pub kind_is : (k : ℕ) → (var_at vars k).kind ≡ kind_at s k
   kind_is k = sym (get_or-map (λ (v : Var). v.kind) vars k no_var) ∙ ap (λ ks. get_or ks k no_var.kind) (sym kinds)
 
   any_or_none : (b : Bool) (t : ℕ × ℤ) → list_any (λ u. is_real vars u.0) (if b then [] else t ∷ []) ≡ (not b && is_real vars t.0)
@@ -78,3 +81,6 @@ module _ (vars : List Var) (s : Scope) (kinds : s.kinds ≡ map (λ (v : Var). v
       list_any-append (λ t. is_real vars t.0) (terms_of n g) (if int_eq (coefficient g n) (pos 0) then [] else (n, coefficient g n) ∷ [])
       ∙ ap₂ (λ (x y : Bool). x || y) (real_terms n g)
       (any_or_none (int_eq (coefficient g n) (pos 0)) (n, coefficient g n) ∙ ap (λ (k : VarKind). not (int_eq (coefficient g n) (pos 0)) && is_real_kind k) (kind_is n))
+
+  pub real_meaning : (g : Meaning) → flat_limits.has_real vars (terms_of (length vars) g) ≡ has_real s (count_of s) g
+  real_meaning g = real_terms (length vars) g ∙ ap (λ n. has_real s n g) (sym count_is)

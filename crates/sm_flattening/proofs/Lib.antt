@@ -5,4 +5,21 @@ pub mod Models
 pub mod Steps
 pub mod Goals
 pub mod Counts
+pub mod Reached
+pub mod MeaningTerms
+pub mod Wider
+pub mod Kept
+pub mod Rising
+pub mod Domains
+pub mod Members
+pub mod Tuples
+pub mod Roles
+pub mod Formulas
+pub mod Tasks
+pub mod Parts
+pub mod PostLimits
+pub mod Fitting
+pub mod FlatParts
+pub mod Aims
+pub mod Flat
 mod Examples

@@ -2,6 +2,7 @@
 use Rattle.std.proofs.Common.{◌≡◌, ◌∙◌, ap, refl, sym, subst, ◌↔◌, ℕ, ◌<◌, arith, List, [], ◌∷◌, length, get_or, Some, inl, inr}
 use Rattle.std.specs.Prelude.{ℤ, ◌≢◌, All, slice_get}
 use Rattle.std.proofs.lemmas.List.{get_or-map, length-map}
+use Rattle.std.proofs.lemmas.List.Elements.{All-same}
 use Rattle.std.proofs.lemmas.Option.{slice_get-get_or, slice_get_within, get_or_from_slice_get}
 use Rattle.sm_kinds.specs.declared.literal.Literal.{Literal}
 use Rattle.sm_kinds.specs.declared.var.Var.{Var}
@@ -20,10 +21,10 @@ use Rattle.sm_forms.specs.Meanings.{Values}
 use Rattle.sm_meaning.specs.Demands.{Demand, row, formula, row_when, kind, Holds, point_of}
 use Rattle.sm_meaning.specs.Expansions.{Post, Declared, Expansion, vars_of}
 use Rattle.sm_meaning.specs.Models.{Means, expansion_of}
-use Rattle.sm_flattening.specs.Flattening.{form_of, IsFlattened, Meets}
+use Rattle.sm_flattening.specs.Flattening.{form_of, constraint_of, constraints_of, IsFlattened, Meets}
 use Rattle.sm_flattening.specs.Regularity.{HasDiscreteLiterals, HasWholeLiterals, AreRegular}
 use Rattle.sm_flattening.proofs.Constraints.{demand_holds, each_literal}
-use Rattle.sm_flattening.proofs.Lists.{read_all, same_images}
+use Rattle.sm_flattening.proofs.Lists.{read_all, all_map}
 
 -- ---- values of domains
 
@@ -92,16 +93,20 @@ module _ (vars : List Var) (a : Values) where
       same k d lt = let r = regular k d lt in let demand = (get_or ps k d).demand in
           demand_holds (length vars) demand a r.affine (literals_whole vars demand a lie r.discrete)
 
--- Both sides say that values lie in their domains. Then the constraints, read one by one, are those whose forms the posts
--- have, and each of these is satisfied exactly where its post holds.
+-- Both sides say that values lie in their domains. Then the constraints, read one by one, are those of the posts, and each of
+-- these is satisfied exactly where its post holds.
 pub solves_meets : (e : Expansion) (m : FlatModel) (a : Values) → IsFlattened e m.vars m.constraints → Solves m (point_of a) ↔ Meets e a
 solves_meets e m a flat = (to, from)
   where
     satisfied : ((k : ℕ) (c : Constraint) → slice_get m.constraints k ≡ Some c → Sat c.form (point_of a)) ↔ All (λ (p : Post). Sat (form_in m.vars a p) (point_of a)) e.posts
     satisfied =
-        let read = read_all (λ (c : Constraint). Sat c.form (point_of a)) m.constraints in
-        let same = same_images (λ (f : Form). Sat f (point_of a)) (λ (c : Constraint). c.form) (form_in m.vars a) m.constraints e.posts flat.forms in
-        ((λ h. same.0 (read.0 h)), (λ h. read.1 (same.1 h)))
+        let HasSat = λ (c : Constraint). Sat c.form (point_of a) in
+        let posted = constraints_of (length m.vars) e.posts in
+        let read = read_all HasSat m.constraints in
+        let images = all_map HasSat (constraint_of (length m.vars)) e.posts in (
+          (λ h. images.1 (All-same HasSat posted m.constraints (sym flat.constraints) (read.0 h))),
+          (λ h. read.1 (All-same HasSat m.constraints posted flat.constraints (images.0 h))),
+        )
 
     to : Solves m (point_of a) → Meets e a
     to s =

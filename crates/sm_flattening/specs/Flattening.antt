@@ -27,21 +27,21 @@ form_of n (formula q) = form.Logic (clauses_of q false)
 form_of n (row_when ls c g) = form.When ls (row_of n c g)
 form_of n (kind f) = f
 
+-- the flat constraint of a post
+abbrev pub constraint_of : ℕ → Post → Constraint
+constraint_of n p = record { form = form_of n p.demand; tags = p.tags }
+
+-- those of posts, in order
+abbrev pub constraints_of : ℕ → List Post → List Constraint
+constraints_of n ps = map (constraint_of n) ps
+
 -- ---- models
 
--- the forms of constraints, in order
-abbrev pub forms_in : List Constraint → List Form
-forms_in cs = map (λ (c : Constraint). c.form) cs
-
--- the forms of posts, in order, where there are n variables
-abbrev pub forms_of : ℕ → List Post → List Form
-forms_of n ps = map (λ (p : Post). form_of n p.demand) ps
-
--- all that is posted can be flattened; the variables are those of the expansion, and the constraints have the forms of its posts
-pub record IsFlattened (e : Expansion) (vars : List Var) (constraints : List Constraint) : Type 0 where
+-- all that is posted can be flattened; the variables are those of the expansion, and the constraints are those of its posts
+pub record IsFlattened (e : Expansion) (vars : List Var) (cs : List Constraint) : Type 0 where
   pub regular : AreRegular vars e.posts
   pub variables : vars ≡ vars_of e
-  pub forms : forms_in constraints ≡ forms_of (length vars) e.posts
+  pub constraints : cs ≡ constraints_of (length vars) e.posts
 
 -- each variable has a value of its declared domain, and all that is posted holds
 pub record Meets (e : Expansion) (a : Values) : Type 0 where

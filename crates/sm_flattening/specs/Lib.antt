@@ -1,2 +1,4 @@
 pub mod Flattening
 pub mod Regularity
+pub mod Counts
+pub mod FlatParts

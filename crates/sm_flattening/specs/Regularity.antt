@@ -52,3 +52,6 @@ HasFewClauses (row c g) = Unit {0}
 HasFewClauses (formula q) = length (clauses_of q false) ≤ most_clauses
 HasFewClauses (row_when ls c g) = Unit {0}
 HasFewClauses (kind f) = Unit {0}
+
+abbrev pub HaveFewClauses : List Post → Type 0
+HaveFewClauses ps = All (λ (p : Post). HasFewClauses p.demand) ps

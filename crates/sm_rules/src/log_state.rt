@@ -436,6 +436,14 @@ impl LogState {
         self.best
     }
 
+    /// The verdict and the best solution, in place of the state.
+    pub fn into_end(self) -> (Option<Verdict>, Option<Assignment>)
+        ensures verdict { result.0 ≡ self.verdict }
+        ensures best { result.1 ≡ self.best }
+    {
+        (self.verdict, self.best)
+    }
+
     /// The verdict, in place of the state.
     pub fn into_verdict(self) -> Option<Verdict>
         ensures { result ≡ self.verdict }

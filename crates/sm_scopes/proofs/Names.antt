@@ -1,5 +1,5 @@
 -- Names in the order in which they were told: what stands at one, and that a new one goes last.
-use Rattle.std.proofs.Common.{◌≡◌, ap, refl, ℕ, Bool, true, false, List, [], ◌∷◌, ◌++◌, map, option_map, is_some, Result, Ok, Err, OnOk, sym, subst, arith, suc, ◌+◌, ◌<◌, length, get_or, All, IfSome}
+use Rattle.std.proofs.Common.{◌≡◌, ap, refl, ℕ, Bool, true, false, List, [], ◌∷◌, ◌++◌, map, option_map, is_some, Result, Ok, Err, OnOk, sym, subst, arith, suc, ◌+◌, ◌<◌, ◌≤◌, length, get_or, All, IfSome}
 use Rattle.std.proofs.lemmas.Grind.{common_steps}
 use Rattle.sm_kinds.specs.declared.var.VarKind.{VarKind}
 use Rattle.sm_kinds.specs.Limits.{most_variables}
@@ -62,6 +62,12 @@ found_has n (e ∷ es) name h = by_test (bytes_eq name e.0) e.1 (found es name) 
 pub lent_has : (n : ℕ) (o : Option (Bor Thing)) (p : Option s.Thing) → option_map (λ (t : Bor Thing). thing_of t.now) o ≡ p → IfSome p (HasVariables n) → IfSome o (λ t. HasVariables n (thing_of t.now))
 lent_has n None p is h = tt
 lent_has n (Some t) p is h = subst (λ q. IfSome q (HasVariables n)) (sym is) h
+
+pub wider_has : (m n : ℕ) (t : s.Thing) → m ≤ n → HasVariables m t → HasVariables n t
+wider_has m n (s.table t) le h = tt
+wider_has m n (s.index_set r) le h = tt
+wider_has m n (s.variable v) le h = omega arith
+wider_has m n (s.family v sets) le h = omega arith
 
 has_more : (n : ℕ) (t : s.Thing) → HasVariables n t → HasVariables (n + 1) t
 has_more n (s.table t) h = tt

@@ -1,6 +1,7 @@
 //! The names that are known, and what they stand for.
 ghost use Rattle.std.specs.Prelude.{◌≡◌, ◌++◌, ◌∷◌, [], option_map, is_some, ◌<◌, ◌≤◌, IfSome, OnOk, false};
 ghost use Rattle.sm_meaning.specs.Scopes.{found, count_of};
+ghost use Rattle.sm_meaning.specs.Cases.{kind_at};
 ghost use Rattle.sm_kinds.specs.Limits.{most_variables};
 ghost use Rattle.sm_scopes.specs.Things.{thing_of, HasVariables};
 
@@ -59,6 +60,7 @@ impl<'t> Scope<'t> {
     pub fn look(&self, name: &[u8]) -> Option<&Thing<'t>>
         ensures thing { option_map (λ t. thing_of t.now) result ≡ found self.now.names name.now }
         ensures variables { IfSome result (λ t. HasVariables (count_of self.now) (thing_of t.now)) }
+        ensures few { IfSome result (λ t. HasVariables most_variables (thing_of t.now)) }
     {
         self.names.get(name)
     }
@@ -69,6 +71,16 @@ impl<'t> Scope<'t> {
         ensures few { result ≤ most_variables }
     {
         self.kinds.len()
+    }
+
+    /// The kind of a variable.
+    pub fn kind_of(&self, var: u32) -> VarKind
+        ensures { result ≡ kind_at self.now var }
+    {
+        match self.kinds.get(var as usize) {
+            Some(kind) => *kind,
+            None => VarKind::Set,
+        }
     }
 
     /// A name that isn't known yet stands for this.

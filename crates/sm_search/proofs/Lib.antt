@@ -7,5 +7,5 @@ pub mod Goings
 pub mod Moving
 pub mod Splitting
 pub mod Lines
-pub mod Solved
+pub mod Endings
 pub mod Grammar

@@ -20,7 +20,7 @@ use Rattle.std.proofs.lemmas.List.{length-map}
 use Rattle.sm_step.specs.declared.line.Line.{Line}
 use Rattle.sm_step.specs.declared.line.Line.TheVariants as line
 use Rattle.sm_step.specs.declared.verdict.Verdict.{Verdict}
-use Rattle.sm_step.specs.declared.verdict.Verdict.TheVariants.{Optimal, Satisfied, Infeasible}
+use Rattle.sm_step.specs.declared.verdict.Verdict.TheVariants.{Optimal, Satisfied, Infeasible, Limit, Range}
 use Rattle.sm_step.specs.Verdicts.{parts_of}
 use Rattle.sm_rules.specs.declared.node.Status.{Status}
 use Rattle.sm_rules.specs.declared.node.Status.TheVariants.{Open, Half}
@@ -39,7 +39,7 @@ use Rattle.sm_rules.specs.Sound.{IsNodeOf, IsBestOf}
 use Rattle.sm_rules.proofs.Keeping.{all_at, goals_known}
 use Rattle.sm_search.specs.Fits.{AreFilled, IsFilled, IsRaised, IsFit, IsRunning, IsAtOpen}
 use Rattle.sm_search.specs.Leaves.{AreAllFixed, NoneUnfixed, first_values, IsSolvedLeaf, FailsConstraint, whole_values}
-use Rattle.sm_search.specs.Turns.{GoesOn, IsReached}
+use Rattle.sm_search.specs.Turns.{GoesOn, IsDecided, IsReached}
 use Rattle.sm_search.specs.Weights.{weight, nodes_weight}
 use Rattle.sm_search.proofs.Weights.{node_falls, close_falls}
 use Rattle.sm_search.proofs.Sizes.{fixed_of}
@@ -90,6 +90,14 @@ allow_solution m s d vs going next = record { due = record { running = going.run
 
 pub allow_verdict : (m : FlatModel) (s : State) (v : Verdict) → IsRunning s → LawfulVerdict m s v → Allowed m s (line.Verdict v)
 allow_verdict m s v going law = record { due = record { running = going.running; order = going.begun }; law = law }
+
+-- no lawful verdict gives up
+pub decided_of : (m : FlatModel) (s : State) (v : Verdict) → LawfulVerdict m s v → IsDecided v
+decided_of m s (Optimal values) law = tt
+decided_of m s Satisfied law = tt
+decided_of m s Infeasible law = tt
+decided_of m s (Limit nodes bound best) law = law
+decided_of m s (Range bound best) law = law
 
 -- ---- nothing is left
 

@@ -8,8 +8,7 @@ use Rattle.sm_step.specs.Verdicts.{IsTrueOf}
 use Rattle.sm_rules.specs.States.{State}
 use Rattle.sm_rules.specs.Trees.{focus_of}
 use Rattle.sm_rules.specs.Laws.{BeatsBest}
-use Rattle.sm_search.specs.declared.ending.Ending.{Ending}
-use Rattle.sm_search.specs.declared.ending.Ending.TheVariants as ending
+use Rattle.sm_search.specs.declared.solved.Solved.{Solved}
 use Rattle.sm_search.specs.declared.turn.Turn.{Turn}
 use Rattle.sm_search.specs.declared.turn.Turn.TheVariants as turn
 use Rattle.sm_search.specs.declared.refusal.WorkRefusal.{WorkRefusal}
@@ -25,18 +24,18 @@ pub record Moves {R : Type 0} (m : FlatModel) (result : Result R WorkRefusal) (o
   pub stopped : IfErr result (Stopped m old before now faults_before faults_now)
   pub later : faults_before ≤ faults_now
 
--- the verdict is of this ending
-abbrev pub IsVerdictOf : Ending → Verdict → Type 0
-IsVerdictOf ending.Optimal (Optimal values) = Unit {0}
-IsVerdictOf ending.Satisfied Satisfied = Unit {0}
-IsVerdictOf ending.Infeasible Infeasible = Unit {0}
-IsVerdictOf _ _ = ⊥
+-- the verdict says how the model is answered, and not why the search gave up
+abbrev pub IsDecided : Verdict → Type 0
+IsDecided (Optimal values) = Unit {0}
+IsDecided Satisfied = Unit {0}
+IsDecided Infeasible = Unit {0}
+IsDecided _ = ⊥
 
--- the log ends in a verdict of this ending
-pub record HasEnded (s : State) (e : Ending) : Type 0 where
+-- the log ends in such a verdict
+pub record HasEnded (s : State) : Type 0 where
   pub verdict : Verdict
   pub stands : s.verdict ≡ Some verdict
-  pub ends : IsVerdictOf e verdict
+  pub decided : IsDecided verdict
 
 -- the search goes on with less to do
 pub record GoesOn (old new : State) : Type 0 where
@@ -45,7 +44,7 @@ pub record GoesOn (old new : State) : Type 0 where
 
 abbrev pub HasTurned : State → State → Turn → Type 0
 HasTurned old new turn.Again = GoesOn old new
-HasTurned old new (turn.Ended e) = HasEnded new e
+HasTurned old new turn.Ended = HasEnded new
 
 -- the search is where it was, and the focus's floors end it
 pub record IsReached (m : FlatModel) (old new : State) : Type 0 where
@@ -53,10 +52,13 @@ pub record IsReached (m : FlatModel) (old new : State) : Type 0 where
   pub same : new.main ≡ old.main
   pub beats : BeatsBest m (focus_of new.main).floors new.best
 
--- some lines of the grammar were put, each allowed in its turn, that end in a verdict of this ending, which is true
-pub record HasSolved (m : FlatModel) (before now : Option (List ℕ)) (e : Ending) : Type 0 where
+-- some lines of the grammar were put, each allowed in its turn, that end in this verdict, which is true of the model and of the
+-- last solution that they give
+pub record HasSolved (m : FlatModel) (before now : Option (List ℕ)) (solved : Solved) : Type 0 where
   pub flat : IsFlat m
   pub place : Place
   pub went : Went m (begin m) place before now
-  pub ended : HasEnded place.state e
-  pub holds : IsTrueOf m place.state.best ended.verdict
+  pub stands : place.state.verdict ≡ Some solved.verdict
+  pub best : place.state.best ≡ solved.best
+  pub decided : IsDecided solved.verdict
+  pub holds : IsTrueOf m solved.best solved.verdict

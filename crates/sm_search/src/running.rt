@@ -7,9 +7,9 @@ ghost use Rattle.sm_search.specs.Fits.{AreDiscrete};
 ghost use Rattle.sm_search.specs.Refusals.{HasReal, IfHalted};
 ghost use Rattle.sm_search.specs.declared.refusal.WorkRefusal.TheVariants.{OutOfMemory as NoMemory};
 
-use crate::ending::Ending;
 use crate::refusal::WorkRefusal;
 use crate::search::Search;
+use crate::solved::Solved;
 use sm_base::Sink;
 use sm_flat::{Flat, Var, VarKind};
 use std::alloc::Global;
@@ -39,8 +39,8 @@ fn has_real(vars: &[Var]) -> bool
 }
 
 /// Searches a model that has no real variable.
-#[tactic(auto, using(crate::proofs::Solved::stopped_first, crate::proofs::Solved::stopped_later))]
-fn solve_discrete<S: Sink>(alloc: Global, flat: &Flat, sink: &mut S) -> Result<Ending, Halt>
+#[tactic(auto, using(crate::proofs::Endings::stopped_first, crate::proofs::Endings::stopped_later))]
+fn solve_discrete<S: Sink>(alloc: Global, flat: &Flat, sink: &mut S) -> Result<Solved, Halt>
     requires { AreDiscrete flat.now.vars }
     ensures solved { IfOk result (HasSolved flat.now (S.written sink.old) (S.written sink.new)) }
     ensures stopped { IfErr result (λ h. Stopped flat.now (begin flat.now) (S.written sink.old) (S.written sink.new) (S.faults sink.old) (S.faults sink.new) h.refusal) }
@@ -63,7 +63,7 @@ fn solve_discrete<S: Sink>(alloc: Global, flat: &Flat, sink: &mut S) -> Result<E
         });
     }
     match search.run(flat, sink) {
-        Ok(ending) => Ok(ending),
+        Ok(()) => Ok(search.into_solved()),
         Err(refusal) => Err(Halt {
             refusal,
             begun: true,
@@ -71,7 +71,8 @@ fn solve_discrete<S: Sink>(alloc: Global, flat: &Flat, sink: &mut S) -> Result<E
     }
 }
 
-/// Searches a model, and puts the lines of its log as it goes. The log ends in a verdict that is true of the model.
+/// Searches a model, and puts the lines of its log as it goes. The log ends in a verdict that is true of the model, which is
+/// answered with the last solution of the log.
 ///
 /// # Errors
 ///
@@ -82,8 +83,8 @@ fn solve_discrete<S: Sink>(alloc: Global, flat: &Flat, sink: &mut S) -> Result<E
 ///   - `OutOfMemory`.
 ///
 ///   What was put is then some lines, each allowed in its turn, and nothing or a front of one more.
-#[tactic(auto, using(crate::proofs::Solved::discrete_of))]
-pub fn solve<S: Sink>(alloc: Global, flat: &Flat, sink: &mut S) -> Result<Ending, SolveRefusal>
+#[tactic(auto, using(crate::proofs::Endings::discrete_of))]
+pub fn solve<S: Sink>(alloc: Global, flat: &Flat, sink: &mut S) -> Result<Solved, SolveRefusal>
     ensures real { (result ≡ Err SolveRefusal.RealVariable) ↔ HasReal flat.now.vars }
     ensures unbegun { result ≡ Err SolveRefusal.RealVariable → sink.new ≡ sink.old }
     ensures solved { IfOk result (HasSolved flat.now (S.written sink.old) (S.written sink.new)) }
@@ -95,7 +96,7 @@ pub fn solve<S: Sink>(alloc: Global, flat: &Flat, sink: &mut S) -> Result<Ending
         return Err(SolveRefusal::RealVariable);
     }
     match solve_discrete(alloc, flat, sink) {
-        Ok(ending) => Ok(ending),
+        Ok(solved) => Ok(solved),
         Err(halt) => Err(SolveRefusal::Halted(halt)),
     }
 }

@@ -1,5 +1,5 @@
 //! A search at its place: the state of the log that was put so far, and the one way a line joins it.
-ghost use Rattle.std.specs.Prelude.{◌≡◌, ◌≤◌, ◌<◌, ◌+◌, ◌^◌, ◌↔◌, [], Err, IsTrue, IfOk, IfErr, OnOk, OnErr, length, vec_len};
+ghost use Rattle.std.specs.Prelude.{◌≡◌, ◌≤◌, ◌<◌, ◌+◌, ◌^◌, ◌↔◌, [], Some, Err, IsTrue, IfOk, IfErr, OnOk, OnErr, length, vec_len};
 ghost use Rattle.std.specs.Io.KnownBytes.{Appends};
 ghost use Rattle.sm_step.specs.Text.{text_of};
 ghost use Rattle.sm_rules.specs.declared.node.Status.TheVariants.{Open as OpenStatus};
@@ -9,10 +9,11 @@ ghost use Rattle.sm_rules.specs.Transitions.{after};
 ghost use Rattle.sm_rules.specs.Sound.{IsOf};
 ghost use Rattle.sm_search.specs.Fits.{AreDiscrete, IsFit, IsOwn, IsRunning};
 ghost use Rattle.sm_search.specs.Went.{begin};
-ghost use Rattle.sm_search.specs.Turns.{Moves};
+ghost use Rattle.sm_search.specs.Turns.{Moves, HasEnded};
 ghost use Rattle.sm_search.specs.declared.refusal.WorkRefusal.TheVariants.{OutOfMemory as NoMemory};
 
 use crate::refusal::WorkRefusal;
+use crate::solved::Solved;
 use sm_base::{OutOfMemory, Sink, put_all};
 use sm_flat::Flat;
 use sm_rules::LogState;
@@ -124,6 +125,19 @@ impl Search {
         ensures unput { result ≡ Err NoMemory → Appends (S.written sink.old) (S.written sink.new) [] }
     {
         self.write(flat, sink, Line::Header { version: 1 })
+    }
+
+    /// The verdict and the best solution of a search that ended, in its place.
+    pub(crate) fn into_solved(self) -> Solved
+        requires { HasEnded self.state }
+        ensures verdict { self.state.verdict ≡ Some result.verdict }
+        ensures best { self.state.best ≡ result.best }
+    {
+        let (verdict, best) = self.state.into_end();
+        match verdict {
+            Some(verdict) => Solved { verdict, best },
+            None => unreachable!(),
+        }
     }
 
     /// Where new memory comes from.

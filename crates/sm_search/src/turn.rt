@@ -9,9 +9,8 @@ ghost use Rattle.sm_rules.specs.Laws.{AsksForAny, LawfulVerdict};
 ghost use Rattle.sm_search.specs.Fits.{IsFit, IsRunning, IsAtOpen};
 ghost use Rattle.sm_search.specs.Leaves.{whole_values};
 ghost use Rattle.sm_search.specs.Picks.{Splits};
-ghost use Rattle.sm_search.specs.Turns.{Moves, GoesOn, HasTurned, HasEnded, IsVerdictOf};
+ghost use Rattle.sm_search.specs.Turns.{Moves, GoesOn, HasTurned, HasEnded};
 
-use crate::ending::Ending;
 use crate::pick::pick;
 use crate::refusal::WorkRefusal;
 use crate::search::Search;
@@ -27,7 +26,7 @@ pub enum Turn {
     /// A node was closed or split.
     Again,
     /// A verdict was put.
-    Ended(Ending),
+    Ended,
 }
 
 // Branch and bound (Land and Doig, 1960), depth first, with the log as its state; search, infer and relax in one loop after
@@ -105,24 +104,22 @@ impl Search {
         }
     }
 
-    /// Writes a verdict of this ending.
-    #[tactic(auto, using(crate::proofs::Lines::allow_verdict))]
+    /// Writes a verdict.
+    #[tactic(auto, using(crate::proofs::Lines::allow_verdict, crate::proofs::Lines::decided_of))]
     fn write_verdict<S: Sink>(
         &mut self,
         flat: &Flat,
         sink: &mut S,
         verdict: Verdict,
-        ending: Ending,
     ) -> Result<Turn, WorkRefusal>
         requires fit { IsFit flat.now self.old.state }
         requires going { IsRunning self.old.state }
         requires lawful { LawfulVerdict flat.now self.old.state verdict }
-        requires ends { IsVerdictOf ending verdict }
         ensures turned { IfOk result (HasTurned self.old.state self.new.state) }
         ensures moved { Moves flat.now result self.old self.new (S.written sink.old) (S.written sink.new) (S.faults sink.old) (S.faults sink.new) }
     {
         self.write(flat, sink, Line::Verdict(verdict))?;
-        Ok(Turn::Ended(ending))
+        Ok(Turn::Ended)
     }
 
     /// The best's values, which are whole, goal by goal.
@@ -138,19 +135,18 @@ impl Search {
 
     /// The verdict of a search that has nothing left to do.
     #[tactic(auto, using(crate::proofs::Lines::optimal_end, crate::proofs::Lines::infeasible_end))]
-    fn last_verdict(&self, flat: &Flat) -> Result<(Verdict, Ending), AllocError>
+    fn last_verdict(&self, flat: &Flat) -> Result<Verdict, AllocError>
         requires fit { IsFit flat.now self.now.state }
         requires any { AsksForAny flat.now → self.now.state.best ≡ None }
         requires refuted { IsRefuted self.now.state.main }
-        ensures lawful { IfOk result (λ r. LawfulVerdict flat.now self.now.state r.0) }
-        ensures ends { IfOk result (λ r. IsVerdictOf r.1 r.0) }
+        ensures lawful { IfOk result (LawfulVerdict flat.now self.now.state) }
     {
         match self.state().best() {
             Some(best) => {
                 let values = self.best_values(flat, best)?;
-                Ok((Verdict::Optimal { values }, Ending::Optimal))
+                Ok(Verdict::Optimal { values })
             }
-            None => Ok((Verdict::Infeasible, Ending::Infeasible)),
+            None => Ok(Verdict::Infeasible),
         }
     }
 
@@ -164,8 +160,8 @@ impl Search {
         ensures turned { IfOk result (HasTurned self.old.state self.new.state) }
         ensures moved { Moves flat.now result self.old self.new (S.written sink.old) (S.written sink.new) (S.faults sink.old) (S.faults sink.new) }
     {
-        let (verdict, ending) = self.last_verdict(flat)?;
-        self.write_verdict(flat, sink, verdict, ending)
+        let verdict = self.last_verdict(flat)?;
+        self.write_verdict(flat, sink, verdict)
     }
 
     /// Whether any solution will do, and there is one.
@@ -184,7 +180,7 @@ impl Search {
         ensures moved { Moves flat.now result self.old self.new (S.written sink.old) (S.written sink.new) (S.faults sink.old) (S.faults sink.new) }
     {
         if self.is_satisfied(flat) {
-            return self.write_verdict(flat, sink, Verdict::Satisfied, Ending::Satisfied);
+            return self.write_verdict(flat, sink, Verdict::Satisfied);
         }
         if self.is_at_open() {
             self.process_node(flat, sink)?;
@@ -201,16 +197,16 @@ impl Search {
 
     /// Takes turns until the verdict.
     #[tactic(auto, using(crate::proofs::Moving::stays, crate::proofs::Moving::moves_more))]
-    pub(crate) fn run<S: Sink>(&mut self, flat: &Flat, sink: &mut S) -> Result<Ending, WorkRefusal>
+    pub(crate) fn run<S: Sink>(&mut self, flat: &Flat, sink: &mut S) -> Result<(), WorkRefusal>
         requires fit { IsFit flat.now self.old.state }
         requires going { IsRunning self.old.state }
-        ensures ended { IfOk result (HasEnded self.new.state) }
+        ensures ended { OnOk result (HasEnded self.new.state) }
         ensures moved { Moves flat.now result self.old self.new (S.written sink.old) (S.written sink.new) (S.faults sink.old) (S.faults sink.new) }
     {
         loop {
             match self.turn(flat, sink)? {
                 Turn::Again => {}
-                Turn::Ended(ending) => return Ok(ending),
+                Turn::Ended => return Ok(()),
             }
         }
     }

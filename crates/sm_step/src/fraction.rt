@@ -38,7 +38,12 @@ fn proper_fraction(n: i128, d: i128) -> Option<Frac>
     fraction_of(n, d)
 }
 
-pub(crate) fn push_fraction(into: &mut Vec<u8>, fraction: &Frac) -> Result<(), OutOfMemory>
+/// Appends the one text of a fraction: a whole number, or numerator and denominator.
+///
+/// # Errors
+///
+/// `OutOfMemory`. Then `into` may have some of the text.
+pub fn push_fraction(into: &mut Vec<u8>, fraction: &Frac) -> Result<(), OutOfMemory>
     ensures { OnOk result (into.new.items ≡ into.old.items ++ fraction_text fraction.now) }
 {
     push_whole(into, fraction.n())?;

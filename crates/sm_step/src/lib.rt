@@ -23,6 +23,7 @@ mod text;
 mod verdict;
 mod verdict_text;
 
+pub use fraction::push_fraction;
 pub use line::{Line, Listed, NorangeOf, Outcome, Pattern};
 pub use reading::{one_line, read};
 pub use refusal::LineRefusal;
@@ -31,3 +32,4 @@ pub use rule::Rule;
 pub use short::Short;
 pub use text::print;
 pub use verdict::Verdict;
+pub use verdict_text::push_verdict;

@@ -70,7 +70,12 @@ fn push_range(
     push_bound(into, bound, best)
 }
 
-pub(crate) fn push_verdict(into: &mut Vec<u8>, verdict: &Verdict) -> Result<(), OutOfMemory>
+/// Appends the one text of a verdict, as it stands in its line.
+///
+/// # Errors
+///
+/// `OutOfMemory`. Then `into` may have some of the text.
+pub fn push_verdict(into: &mut Vec<u8>, verdict: &Verdict) -> Result<(), OutOfMemory>
     ensures { OnOk result (into.new.items ≡ into.old.items ++ verdict_text verdict.now) }
 {
     match verdict {

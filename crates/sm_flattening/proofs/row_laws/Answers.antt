@@ -1,4 +1,4 @@
-use Rattle.sm_flattening.proofs.Affine.{form_affine, row_numbers, affine_wider, more_terms}
+use Rattle.sm_flattening.proofs.Affine.{form_affine, row_numbers}
 use Rattle.sm_flattening.proofs.row_laws.Goals as goal
 
 pub returns-clause-affine : goal.returns-clause-affine
@@ -6,9 +6,3 @@ returns-clause-affine c = form_affine
 
 pub returns-clause-numbers : goal.returns-clause-numbers
 returns-clause-numbers c = row_numbers
-
-pub returns-clause-wider : goal.returns-clause-wider
-returns-clause-wider c = affine_wider
-
-pub returns-clause-same : goal.returns-clause-same
-returns-clause-same c = more_terms

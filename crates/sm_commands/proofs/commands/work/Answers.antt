@@ -16,7 +16,7 @@ returns-in-Ok-clause-solved g c =
       put_now = g.S.Sink.written c.solve.new.sink;
     } in
     let asked : model_of (map string_bytes c.args.words.now) ≡ Some c.in-Some.name.now = search rules in
-    solved_of given e c.in-Some.name.now c.in_ok-flat.flat c.in-Ok.ending asked c.in_ok-flat.ensures.ok c.in-Ok.ensures.solved
+    solved_of given e c.in-Some.name.now c.in_ok-flat.flat c.in-Ok.solved asked c.in_ok-flat.ensures.ok c.in-Ok.ensures.solved
 
 pub returns-in-Err-Halted-clause-stopped : goal.returns-in-Err-Halted-clause-stopped
 returns-in-Err-Halted-clause-stopped g c =

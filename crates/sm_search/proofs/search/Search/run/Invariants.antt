@@ -4,11 +4,11 @@ use Rattle.sm_search.specs.Turns.{Moves}
 use Rattle.sm_search.specs.Weights.{weight}
 use Rattle.sm_search.proofs.search.Search.run.Given as goal
 
-abbrev pub invariant-loop-ending : goal.invariant-loop-ending
-invariant-loop-ending g l = record {
+abbrev pub invariant-loop : goal.invariant-loop
+invariant-loop g l = record {
   going : IsRunning l.self.state;
   moved : Moves l.flat (Ok (tt {0})) l.fn.self l.self (g.S.Sink.written l.fn.sink) (g.S.Sink.written l.sink) (g.S.Sink.faults l.fn.sink) (g.S.Sink.faults l.sink);
 }
 
-abbrev pub decreases-loop-ending : goal.decreases-loop-ending
-decreases-loop-ending g l = weight l.self.state
+abbrev pub decreases-loop : goal.decreases-loop
+decreases-loop g l = weight l.self.state

@@ -1,0 +1,11 @@
+pub mod Parts
+pub mod FormulaDrafts
+pub mod Reached
+pub mod DemandSorts
+pub mod LiteralBounds
+pub mod RowTrials
+pub mod Horizons
+pub mod SizedForms
+pub mod Additions
+pub mod FrontTrials
+pub mod Growing

@@ -1,0 +1,18 @@
+use Rattle.std.proofs.Common.{subst}
+use Rattle.sm_meaning.specs.Limits.{terms_tried}
+use Rattle.sm_drafts.specs.Drafts.{IsDraftOf, Passes}
+use Rattle.sm_drafts.proofs.DemandSorts.{of_row, of_when, of_kind}
+use Rattle.sm_drafts.proofs.front.try_terms.Goals as goal
+
+pub returns-in-Row : goal.returns-in-Row
+returns-in-Row c = λ n d h.
+    of_row n d c.in-Row.cmp c.in-Row.form (λ x. Passes (terms_tried n x) c.try_row_terms.result) (subst (IsDraftOf n d) c.in-Row.is h) (λ g k. c.try_row_terms.ensures n g k)
+
+pub returns-in-RowWhen : goal.returns-in-RowWhen
+returns-in-RowWhen c = λ n d h.
+    of_when n d c.in-RowWhen.literals c.in-RowWhen.cmp c.in-RowWhen.form (λ x. Passes (terms_tried n x) c.try_row_terms-in-RowWhen.result) (subst (IsDraftOf n d) c.in-RowWhen.is h)
+    (λ g k. c.try_row_terms-in-RowWhen.ensures n g k)
+
+pub returns-in-Kind : goal.returns-in-Kind
+returns-in-Kind c = λ n d h.
+    of_kind n d c.in-Kind.form (λ x. Passes (terms_tried n x) c.try_kind_terms.result) (subst (IsDraftOf n d) c.in-Kind.is h) c.try_kind_terms.ensures

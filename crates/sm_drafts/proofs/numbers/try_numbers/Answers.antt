@@ -1,0 +1,20 @@
+use Rattle.std.proofs.Common.{ℤ, slice_index_or, pos}
+use Rattle.std.proofs.lemmas.Result.{err_from_is_err_and}
+use Rattle.sm_meaning.specs.Refusals.{number_over}
+use Rattle.sm_meaning.specs.Trials.{tried}
+use Rattle.sm_drafts.proofs.Parts.{split_at, one_more, refused_at, all_passed}
+use Rattle.sm_drafts.proofs.numbers.try_numbers.Goals as goal
+
+pub returns-in_err-try_small : goal.returns-in_err-try_small
+returns-in_err-try_small c =
+    let p = err_from_is_err_and c.from_residual.result c.from_residual.ensures.1 in
+    rw (p.1, p.2) (refused_at c.in_err-try_small.field-0.0 (λ (z : ℤ). tried (number_over c.args.what c.args.bound z)) c.args.numbers.now c.loop-number.number-index (slice_index_or c.args.numbers.now c.loop-number.number-index (pos 0))
+    (split_at c.args.numbers.now c.loop-number.number-index (pos 0) c.loop-number-test.true) c.loop-number.invariant c.in_err-try_small.ensures.tried)
+
+pub loop-number-preserved : goal.loop-number-preserved
+loop-number-preserved c =
+    one_more (λ (z : ℤ). tried (number_over c.args.what c.args.bound z)) c.args.numbers.now c.loop-number.number-index (slice_index_or c.args.numbers.now c.loop-number.number-index (pos 0))
+    (split_at c.args.numbers.now c.loop-number.number-index (pos 0) c.loop-number-test.true) c.loop-number.invariant c.in_ok-try_small.ensures.tried
+
+pub returns : goal.returns
+returns c = all_passed (λ (z : ℤ). tried (number_over c.args.what c.args.bound z)) c.args.numbers.now c.loop-number.number-index tt c.loop-number-test.false c.loop-number.invariant

@@ -1,0 +1,10 @@
+pub mod Values
+pub mod Trying
+pub mod Members
+pub mod Products
+pub mod Entries
+pub mod Trees
+pub mod AddendSums
+pub mod Factors
+pub mod TupleSums
+pub mod Comparing

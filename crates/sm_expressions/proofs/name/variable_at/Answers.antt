@@ -1,0 +1,25 @@
+use Rattle.std.proofs.Common.{map}
+use Rattle.std.proofs.lemmas.Result.{err_from_is_err_and}
+use Rattle.std.specs.Prelude.{not, ◌==◌}
+use Rattle.sm_syntax.specs.Expressions.{expression_of, expressions_of}
+use Rattle.sm_forms.specs.Forms.{IsFormOf}
+use Rattle.sm_meaning.specs.declared.refusal.Wrong.TheVariants.{Shape}
+use Rattle.sm_meaning.specs.Refusals.{wrong_if}
+use Rattle.sm_meaning.specs.Scopes.{count_of}
+use Rattle.sm_meaning.specs.Trials.{tried}
+use Rattle.sm_meaning.specs.Worths.{value_of}
+use Rattle.sm_meaning.specs.ExpressionTrials.{expression_count, value_tried}
+use Rattle.sm_expressions.proofs.Trying.{stops, then_goes}
+use Rattle.sm_expressions.proofs.name.variable_at.Goals as goal
+
+pub returns-in_err-expect_count : goal.returns-in_err-expect_count
+returns-in_err-expect_count c =
+    let p = err_from_is_err_and c.from_residual.result c.from_residual.ensures.1 in
+    rw (p.1, p.2) (λ s below visited.
+    stops c.in_err-expect_count.field-0.0 (tried (wrong_if (not (0 == expression_count (expressions_of (map expression_of c.args.parts.now)))) c.args.place Shape))
+    (value_tried s (value_of c.args.var)) visited (c.in_err-expect_count.ensures.tried visited))
+
+pub returns : goal.returns
+returns c = λ s below visited.
+    then_goes (tried (wrong_if (not (0 == expression_count (expressions_of (map expression_of c.args.parts.now)))) c.args.place Shape))
+    (value_tried s (value_of c.args.var)) visited visited visited (IsFormOf (count_of s) (value_of c.args.var)) c.variable_form.result (c.in_ok-expect_count.ensures.tried visited).0 (c.variable_form.ensures s below visited)

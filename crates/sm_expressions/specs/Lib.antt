@@ -1,0 +1,4 @@
+pub mod Values
+pub mod Products
+pub mod Named
+pub mod Sums

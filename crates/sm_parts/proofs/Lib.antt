@@ -1,0 +1,4 @@
+pub mod Eaches
+pub mod Loops
+pub mod Views
+pub mod EntryTrials

@@ -30,6 +30,7 @@ pub returns : goal.returns
 returns c = λ count.
     let t = c.args.draft.now in
     let branch = (c.in_ok-branch.ensures count).1 in
-    let sub = (c.in_ok-sub.ensures count).1 in
-    (goes_on (branch_tried t) (sub_tried t.sub) count count (c.in_ok-branch.ensures count).0 ∙ (c.in_ok-sub.ensures count).0,
-     ap (λ n. record (tags_of t) { branch = n; sub = c.in_ok-sub.sub }) branch ∙ ap (λ s. record (tags_of t) { sub = s }) sub)
+    let sub = (c.in_ok-sub.ensures count).1 in (
+      goes_on (branch_tried t) (sub_tried t.sub) count count (c.in_ok-branch.ensures count).0 ∙ (c.in_ok-sub.ensures count).0,
+      ap (λ n. record (tags_of t) { branch = n; sub = c.in_ok-sub.sub }) branch ∙ ap (λ s. record (tags_of t) { sub = s }) sub,
+    )

@@ -14,7 +14,7 @@ use Rattle.sm_meaning.specs.Places.{place_of}
 use Rattle.sm_meaning.specs.Goals.{aim_part, aim_sense, aim_worth, aims_tried}
 use Rattle.sm_meaning.proofs.Steps.{stops, goes_on, stopped_same}
 use Rattle.sm_drafts.proofs.Parts.{grouped}
-use Rattle.sm_goals.specs.Goals.{AreFormsOf, IsAimForm, AreAimForms, aim_tried, discrete_tried}
+use Rattle.sm_goals.specs.Goals.{AreFormsOf, IsAimForm, AreAimForms, aim_tried, no_real_tried}
 use Rattle.sm_goals.specs.declared.aim.AimForm.{AimForm}
 use Rattle.sm_goals.proofs.Forms.{forms-append}
 
@@ -26,7 +26,7 @@ aim_first s a [] b count is = rw is (alone (expression_tried (aim_part a) s [] c
     alone (stopped e) = refl
     alone (reached n) = refl
 aim_first s a (y ∷ ys) b count is =
-    rw (is ∙ not_zero (length ys)) (sym (grouped (expression_tried (aim_part a) s []) (discrete_tried s (place_of (aim_part a)) (aim_worth s a)) (aims_tried s (y ∷ ys)) count))
+    rw (is ∙ not_zero (length ys)) (sym (grouped (expression_tried (aim_part a) s []) (no_real_tried s (place_of (aim_part a)) (aim_worth s a)) (aims_tried s (y ∷ ys)) count))
   where
     not_zero : (k : ℕ) → (suc k == 0) ≡ false
     not_zero k = by_test (suc k == 0) refl

@@ -58,13 +58,13 @@ abbrev pub has_real_term : Scope → List (ℕ × ℤ) → Bool
 has_real_term s terms = list_any (λ (t : ℕ × ℤ). is_real_kind (kind_at s t.0)) terms
 
 -- no real variable matters to an expression at this place
-abbrev pub discrete_tried : Scope → Place → Meaning → Trial
-discrete_tried s p g = tried (wrong_if (has_real s (count_of s) g) p Kind)
+abbrev pub no_real_tried : Scope → Place → Meaning → Trial
+no_real_tried s p g = tried (wrong_if (has_real s (count_of s) g) p Kind)
 
 -- the part of an aim, the last or another
 abbrev pub part_tried : Scope → Expression → Bool → Trial
 part_tried s x true = expression_tried x s []
-part_tried s x false = expression_tried x s [] ▸ discrete_tried s (place_of x) (worth x s.names [])
+part_tried s x false = expression_tried x s [] ▸ no_real_tried s (place_of x) (worth x s.names [])
 
 abbrev pub aim_tried : Scope → Aim → Bool → Trial
 aim_tried s a is_last = part_tried s (aim_part a) is_last

@@ -13,7 +13,7 @@ ghost use Rattle.sm_meaning.specs.ExpressionTrials.{expression_tried};
 ghost use Rattle.sm_meaning.specs.Limits.{has_real};
 ghost use Rattle.sm_meaning.specs.Goals.{aim_part, aim_sense, aim_worth, aims_tried};
 ghost use Rattle.sm_meaning.specs.Places.{place_of};
-ghost use Rattle.sm_goals.specs.Goals.{has_real_term, part_tried, aim_tried, IsAimForm, AreAimForms, discrete_tried};
+ghost use Rattle.sm_goals.specs.Goals.{has_real_term, part_tried, aim_tried, IsAimForm, AreAimForms, no_real_tried};
 
 use sm_expressions::expression;
 use sm_flat::Sense;
@@ -88,7 +88,7 @@ fn has_real(scope: &Scope, form: &Form) -> bool
 
 /// Tries that no real variable matters to a form, of an expression at this place.
 fn try_discrete(scope: &Scope, form: &Form, place: Place) -> Result<(), ExpandRefusal>
-    ensures { (g : Meaning) → IsFormOf (count_of scope.now) g form.now → (count : ℕ) → GoesThrough (discrete_tried scope.now place g) count count (λ _. Unit {0}) result }
+    ensures { (g : Meaning) → IsFormOf (count_of scope.now) g form.now → (count : ℕ) → GoesThrough (no_real_tried scope.now place g) count count (λ _. Unit {0}) result }
 {
     if has_real(scope, form) {
         return Err(ExpandRefusal::at(place, Wrong::Kind));
@@ -103,7 +103,7 @@ fn discrete_form<'t>(
     visited: &mut u64,
     x: &'t Expr,
 ) -> Result<Form, ExpandRefusal>
-    ensures { GoesThrough (expression_tried (expression_of x.now) scope.now [] ▸ discrete_tried scope.now (place_of (expression_of x.now)) (worth (expression_of x.now) scope.now.names [])) visited.old visited.new
+    ensures { GoesThrough (expression_tried (expression_of x.now) scope.now [] ▸ no_real_tried scope.now (place_of (expression_of x.now)) (worth (expression_of x.now) scope.now.names [])) visited.old visited.new
         (IsFormOf (count_of scope.now) (worth (expression_of x.now) scope.now.names [])) result }
 {
     let form = evaluated(alloc, scope, visited, x)?;

@@ -1,0 +1,4 @@
+mod Gathered
+mod Negating
+mod Quantifying
+mod Trees

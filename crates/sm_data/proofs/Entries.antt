@@ -1,9 +1,10 @@
 -- Tables by name: what stands at a name, and that a new name goes last.
-use Rattle.std.proofs.Common.{◌≡◌, ap, refl, subst, arith, ◌||◌, ℕ, ◌<◌, Bool, true, false, List, [], ◌∷◌, ◌++◌, map, length, is_some, String, string_bytes, codes, Result, Ok, Err}
+use Rattle.std.proofs.Common.{◌≡◌, ap, refl, subst, arith, ◌||◌, ℕ, ◌<◌, Bool, true, false, List, [], ◌∷◌, ◌++◌, map, length, take, slice_get, zero, suc, ◌∙◌, is_some, String, string_bytes, codes, Result, Ok, Err}
 use Rattle.std.specs.Prelude.{if◌then◌else◌, Option, Some, None}
 use Rattle.std.specs.Map.{lookup}
 use Rattle.std.specs.Str.{bytes_eq}
-use Rattle.std.specs.String.{string_eq}
+use Rattle.std.specs.String.{string_eq, string_eq_equiv}
+use Rattle.std.specs.List.{AllByRecursion, IsDistinct}
 use Rattle.std.proofs.lemmas.List.{map-append}
 use Rattle.std.specs.declared.alloc.Global.{Global}
 use Rattle.toml.specs.Data.{Data}
@@ -77,3 +78,24 @@ named_records name stem bytes known found is named new h = rw (named, new) (subs
 pub csv_file : (path bytes stem : List ℕ) (known : List Entry) (found : Result (List Entry) DataRefusal) → stem_of (codes ".toml") (file_name path) ≡ None → stem_of (codes ".csv") (file_name path) ≡ Some stem
     → NamedComesTo (is_name stem) (is_known stem known) stem bytes known found → FileComesTo path bytes known found
 csv_file path bytes stem known found toml csv h = rw (toml, csv) h
+
+-- ---- a table by its number
+
+nothing : {X : Type 0} (x : X) → None ≡ Some x → ⊥
+nothing x h = cc
+
+-- what holds of each key holds of this one
+key_at : (P : String Global → Type 0) (es : List (String Global × Table)) (i : ℕ) (e : String Global × Table) → AllByRecursion P (map (λ x. x.0) es) → slice_get es i ≡ Some e → P e.0
+key_at P [] i e h is = absurd (nothing e is)
+key_at P (x ∷ es) zero e h is = let same : x ≡ e = cc in subst (λ (y : String Global × Table). P y.0) same h.0
+key_at P (x ∷ es) (suc i) e h is = key_at P es i e h.1 is
+
+-- no table before it has its name
+pub new_at : (es : List (String Global × Table)) (i : ℕ) (e : String Global × Table) → IsDistinct string_eq (map (λ x. x.0) es) → slice_get es i ≡ Some e
+    → is_known (string_bytes e.0) (take i (map entry_view es)) ≡ false
+unfolding IsDistinct
+new_at [] i e h is = absurd (nothing e is)
+new_at (x ∷ es) zero e h is = refl
+new_at (x ∷ es) (suc i) e h is =
+    let other : bytes_eq (string_bytes e.0) (string_bytes x.0) ≡ false = string_eq_equiv.symm e.0 x.0 ∙ key_at (λ k. string_eq x.0 k ≡ false) es i e h.0 is in
+    rw other (new_at es i e h.1 is)

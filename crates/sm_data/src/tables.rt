@@ -1,5 +1,5 @@
 //! The tables of the data files of a model.
-ghost use Rattle.std.specs.Prelude.{◌≡◌, ◌++◌, ◌∷◌, [], List, String, false, map, ◌⊎◌, IfErr, IfOk, OnOk, OnErr, Err, option_map, string_bytes};
+ghost use Rattle.std.specs.Prelude.{◌≡◌, ◌↔◌, ◌++◌, ◌∷◌, [], List, String, false, map, length, take, slice_get, ◌⊎◌, IsTrue, IfErr, IfOk, IfSome, OnOk, OnErr, Err, option_map, string_bytes};
 ghost use Rattle.std.specs.declared.alloc.Global.{Global};
 ghost use Rattle.toml.specs.Data.{Members};
 ghost use Rattle.toml.specs.View.{table_view, view};
@@ -200,6 +200,29 @@ impl Tables {
         ensures { option_map (λ t. t.now) result ≡ table_of self.now name.now }
     {
         self.entries.get(name)
+    }
+
+    /// How many tables there are.
+    pub fn len(&self) -> usize
+        ensures { result ≡ length self.now }
+    {
+        self.entries.len()
+    }
+
+    /// Whether there are no tables.
+    pub fn is_empty(&self) -> bool
+        ensures { IsTrue result ↔ (self.now ≡ []) }
+    {
+        self.entries.is_empty()
+    }
+
+    /// The name and the table that were added at this place. No table before it has the name.
+    pub fn get_index(&self, index: usize) -> Option<(&str, &Table)>
+        ensures entry { option_map (λ e. (e.0.now, e.1.now)) result ≡ slice_get self.now index }
+        ensures new { IfSome result (λ e. is_known e.0.now (take index self.now) ≡ false) }
+    {
+        let (name, table) = self.entries.as_slice().get_index(index)?;
+        Some((name.as_str(), table))
     }
 
     /// Adds the tables of a data file. Its name is the part of `name` after the last slash, and ends in `.toml` or in

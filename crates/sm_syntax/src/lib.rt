@@ -78,6 +78,11 @@ pub fn parse(alloc: Global, text: &[u8]) -> Result<Tree, ParseRefusal>
     }
 }
 
+/// Lets a tree go. A caller that drops a tree itself has to prove anew how each part of it is dropped.
+pub fn discard(tree: Tree) {
+    drop(tree);
+}
+
 /// Why there is no tree, where the reader stopped at a place.
 fn refusal(failure: Failure, place: Place) -> ParseRefusal
     ensures { result ≡ refusal_at failure place }

@@ -1,0 +1,5 @@
+pub mod ItemSteps
+pub mod Standing
+pub mod Torn
+pub mod Whole
+pub mod Listings

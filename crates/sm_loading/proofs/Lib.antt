@@ -1,0 +1,2 @@
+pub mod EntryLimits
+pub mod Files

@@ -1,0 +1,32 @@
+use Rattle.std.proofs.Common.{◌≡◌, subst, sym, map, ℕ, List, length, Bor}
+use Rattle.std.proofs.lemmas.List.{length-map}
+use Rattle.sm_syntax.specs.Trees.{tree_of}
+use Rattle.sm_run.specs.Causes.{IsModelOf, IsFlatOfFiles, IsOfFiles, IsExpandCause, IsModelCause}
+use Rattle.sm_run.proofs.Loads.{of_files, expand_cause, if_ok, if_err}
+use Rattle.sm_run.proofs.loading.flat_of_files.Goals as goal
+
+pub returns-in-Ok-clause-flat : goal.returns-in-Ok-clause-flat
+returns-in-Ok-clause-flat g c =
+    let whole = tree_of c.in-Ok.loaded.tree in
+    if_ok (IsModelOf whole c.in-Ok.loaded.tables) (IsFlatOfFiles (g.F.Shelf.held c.args.shelf.now) c.args.model.now (map (λ (f : Bor (List ℕ)). f.now) c.args.files.now)) c.flat_of.result
+    (λ m is. record { whole = whole; tables = c.in-Ok.loaded.tables; loaded = c.in-Ok.ensures.loaded; holds = is }) c.flat_of.ensures.flat
+
+pub returns-in-Ok-clause-cause : goal.returns-in-Ok-clause-cause
+returns-in-Ok-clause-cause g c =
+    let whole = tree_of c.in-Ok.loaded.tree in
+    let files = map (λ (f : Bor (List ℕ)). f.now) c.args.files.now in
+    let held = g.F.Shelf.held c.args.shelf.now in
+    let before = g.F.Shelf.faults c.args.shelf.now in
+    let now = g.F.Shelf.faults c.load.new.shelf in
+    if_err (IsExpandCause whole c.in-Ok.loaded.tables) (IsModelCause held c.args.model.now files before now) c.flat_of.result
+    (λ line cause. expand_cause held c.args.model.now files before now whole c.in-Ok.loaded.tables line c.in-Ok.ensures.loaded cause) c.flat_of.ensures.cause
+
+pub returns-in-Err-clause-cause : goal.returns-in-Err-clause-cause
+returns-in-Err-clause-cause g c =
+    c.error_of_load.ensures (g.F.Shelf.held c.args.shelf.now) c.args.model.now (g.F.Shelf.faults c.args.shelf.now) (g.F.Shelf.faults c.load.new.shelf) c.in-Err.ensures.cause
+
+pub error_of_load-requires : goal.error_of_load-requires
+error_of_load-requires g c =
+    let files = map (λ (f : Bor (List ℕ)). f.now) c.args.files.now in
+    subst (λ (n : ℕ). IsOfFiles n c.in-Err.refusal) (length-map c.args.files.now (λ (f : Bor (List ℕ)). f.now))
+    (of_files (g.F.Shelf.held c.args.shelf.now) c.args.model.now files (g.F.Shelf.faults c.args.shelf.now) (g.F.Shelf.faults c.load.new.shelf) c.in-Err.refusal c.in-Err.ensures.cause)

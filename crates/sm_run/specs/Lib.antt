@@ -1,0 +1,5 @@
+pub mod Devices
+pub mod Causes
+pub mod Endings
+pub mod Telling
+pub mod Searching

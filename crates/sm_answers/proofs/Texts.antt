@@ -57,8 +57,10 @@ better_flat (x ∷ xs) (s ∷ ss) (g ∷ gs) h a b k = either (better_flat xs ss
   where
     cost_at : (c : Values) → minimised x.sense (worth x (point_of c)) ≡ minimised s (g c)
     cost_at c = ap₂ minimised h.0 (h.1 c)
+
     crossed : (c d : Values) → (minimised x.sense (worth x (point_of c)) *ℤ d.denominator) ≡ (minimised s (g c) *ℤ d.denominator)
     crossed c d = ap (λ (z : ℤ). z *ℤ d.denominator) (cost_at c)
+
     either : (AreBetterBy ss gs a b → IsBetterBy xs (point_of a) (point_of b)) → AreBetterBy (s ∷ ss) (g ∷ gs) a b → IsBetterBy (x ∷ xs) (point_of a) (point_of b)
     either later (inl less) = inl (rw (crossed a b, crossed b a) less)
     either later (inr same) = inr (crossed a b ∙ same.0 ∙ sym (crossed b a), later same.1)

@@ -60,6 +60,7 @@ none_behind (suc k) i g h =
         by_test : (t : Bool) → (k == i) ≡ t → (k == i) ≡ false
         by_test true e = absurd (grind (arith, nat_tests))
         by_test false e = e
+
     by_case : (b : Bool) → has_term i (if b then [] else (k, coefficient g k) ∷ []) ≡ false
     by_case true = refl
     by_case false = ap (λ (t : Bool). t || false) below
@@ -113,6 +114,7 @@ subs_same n i (p ∷ ps) lt h = by_case (subs_same n i ps lt (All-tail (λ (q : 
   where
     here : stands_in_form i (form_of n p.demand) ≡ stands_in i p.demand
     here = stands_same n i p.demand lt (All-head (λ (q : Post). HasOwnKind q.demand) p ps h)
+
     by_case : subs_in i (constraints_of n ps) ≡ subs_of i ps → (b : Bool) → stands_in i p.demand ≡ b → subs_in i (constraints_of n (p ∷ ps)) ≡ subs_of i (p ∷ ps)
     by_case later true e = subs_take i (constraint_of n p) (constraints_of n ps) (here ∙ e) ∙ ap (λ (gs : List (Option ℕ)). p.tags.sub ∷ gs) later ∙ sym (rw e refl)
     by_case later false e = subs_skip i (constraint_of n p) (constraints_of n ps) (here ∙ e) ∙ later ∙ sym (rw e refl)

@@ -64,6 +64,7 @@ all_none i (c ∷ cs) h = by_case (all_none i cs) (stands_in_form i c.form) refl
   where
     none : (is_some c.tags.sub ≡ false) × (some_sub cs ≡ false)
     none = or_both (is_some c.tags.sub) (some_sub cs) h
+
     by_case : (some_sub cs ≡ false → list_all (same_sub None) (subs_in i cs) ≡ true) → (b : Bool) → stands_in_form i c.form ≡ b → list_all (same_sub None) (subs_in i (c ∷ cs)) ≡ true
     by_case later true e = ap (list_all (same_sub None)) (subs_take i c cs e) ∙ ap (λ (g : Option ℕ). same_sub None g && list_all (same_sub None) (subs_in i cs)) (no_sub c.tags.sub none.0) ∙ later none.1
     by_case later false e = ap (list_all (same_sub None)) (subs_skip i c cs e) ∙ later none.1
@@ -74,6 +75,7 @@ whole_without i (c ∷ cs) h = by_case (whole_without i cs) (stands_in_form i c.
   where
     none : (is_some c.tags.sub ≡ false) × (some_sub cs ≡ false)
     none = or_both (is_some c.tags.sub) (some_sub cs) h
+
     by_case : (some_sub cs ≡ false → is_torn (subs_in i cs) ≡ false) → (b : Bool) → stands_in_form i c.form ≡ b → is_torn (subs_in i (c ∷ cs)) ≡ false
     by_case later true e =
         ap is_torn (subs_take i c cs e)

@@ -99,12 +99,11 @@ pub brief_halted : (whole : Tree) (tables : List Entry) (m : FlatModel) (out asi
     → Stopped m (begin m) aside.before aside.now aside.faults_before aside.faults_now r → HaltsAside r out end → EndsBrief whole tables m out aside end
 brief_halted whole tables m out aside r ending.Untold stopped (line, told, fails) =
     (ending.Refused line, error_text line, (refl, inl (record { refusal = r; stopped = stopped; told = told })), fails)
-brief_halted whole tables m out aside r (ending.Stopped q) stopped (is, same, keeps) =
-    (
-      same ∙ is,
-      subst (λ (p : WorkRefusal). Stopped m (begin m) aside.before aside.now aside.faults_before aside.faults_now p) (sym same) stopped,
-      subst (λ (w : Option (List ℕ)). Appends out.before w []) (sym keeps.same) (appends_none out.before),
-    )
+brief_halted whole tables m out aside r (ending.Stopped q) stopped (is, same, keeps) = (
+  same ∙ is,
+  subst (λ (p : WorkRefusal). Stopped m (begin m) aside.before aside.now aside.faults_before aside.faults_now p) (sym same) stopped,
+  subst (λ (w : Option (List ℕ)). Appends out.before w []) (sym keeps.same) (appends_none out.before),
+)
 brief_halted whole tables m out aside r (ending.Refused line) stopped (told, put) =
     (error_text line, (refl, inl (record { refusal = r; stopped = stopped; told = told })), put)
 brief_halted whole tables m out aside r (ending.Solved o) stopped k = absurd k

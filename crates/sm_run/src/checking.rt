@@ -26,7 +26,7 @@ fn tell_line<'a, S: Sink>(
     out: &mut S,
     line: Result<Vec<u8>, OutOfMemory>,
     ending: Ending<'a>,
-) -> Ending<'a> 
+) -> Ending<'a>
     ensures { TellsLine line ending.entry (device (S.faults out.old) (S.faults out.new) (S.written out.old) (S.written out.new)) result }
 {
     match line {
@@ -56,12 +56,7 @@ fn tell_refusal<'a, S: Sink>(alloc: Global, out: &mut S, refusal: CheckRefusal) 
 fn tell_verdict<'a, S: Sink>(alloc: Global, out: &mut S, verdict: Verdict) -> Ending<'a>
     ensures { TellsVerdict verdict (device (S.faults out.old) (S.faults out.new) (S.written out.old) (S.written out.new)) result }
 {
-    tell_line(
-        alloc,
-        out,
-        accepted_line(alloc, &verdict),
-        Ending::Accepted,
-    )
+    tell_line(alloc, out, accepted_line(alloc, &verdict), Ending::Accepted)
 }
 
 /// Checks a log against a model, and tells what it shows.

@@ -29,16 +29,28 @@ fn done<'a, F: Shelf, S: Sink, D: Sink>(
     }) result }
 {
     match request(alloc, words) {
-        Ok(Request::Solve {
+        Ok(
+            Request::Solve {
+                model,
+                data_files,
+                brief,
+            },
+        ) => solved(
+            alloc,
             model,
-            data_files,
+            data_files.as_slice(),
             brief,
-        }) => solved(alloc, model, data_files.as_slice(), brief, shelf, out, aside),
-        Ok(Request::Check {
-            model,
-            data_files,
-            log,
-        }) => checked(alloc, model, data_files.as_slice(), log, shelf, out),
+            shelf,
+            out,
+            aside,
+        ),
+        Ok(
+            Request::Check {
+                model,
+                data_files,
+                log,
+            },
+        ) => checked(alloc, model, data_files.as_slice(), log, shelf, out),
         Err(RequestRefusal::Usage) => refuse(alloc, out, ErrorLine::Usage),
         Err(RequestRefusal::OutOfMemory) => refuse(alloc, out, ErrorLine::Memory),
     }

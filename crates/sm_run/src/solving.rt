@@ -62,12 +62,7 @@ fn put_log<'a, S: Sink>(alloc: Global, flat: &Flat, out: &mut S) -> Ending<'a>
 }
 
 /// Puts the best solution of a search, by the names of its variables, and its verdict.
-fn put_solution<'a, S: Sink>(
-    alloc: Global,
-    flat: &Flat,
-    solved: &Solved,
-    out: &mut S,
-) -> Ending<'a>
+fn put_solution<'a, S: Sink>(alloc: Global, flat: &Flat, solved: &Solved, out: &mut S) -> Ending<'a>
     ensures { TellsSolution flat.now solved.now (device (S.faults out.old) (S.faults out.new) (S.written out.old) (S.written out.new)) result }
 {
     match brief_text(alloc, flat.vars(), solved.best.as_ref(), &solved.verdict) {
@@ -148,13 +143,12 @@ pub(crate) fn solved<'a, F: Shelf, S: Sink, D: Sink>(
     out: &mut S,
     aside: &mut D,
 ) -> Ending<'a>
-    ensures {
-        let e : Effects = record {
-          read_before = F.faults shelf.old;
-          read_now = F.faults shelf.new;
-          out = device (S.faults out.old) (S.faults out.new) (S.written out.old) (S.written out.new);
-          aside = device (D.faults aside.old) (D.faults aside.new) (D.written aside.old) (D.written aside.new);
-        } in
+    ensures { let e : Effects = record {
+      read_before = F.faults shelf.old;
+      read_now = F.faults shelf.new;
+      out = device (S.faults out.old) (S.faults out.new) (S.written out.old) (S.written out.new);
+      aside = device (D.faults aside.old) (D.faults aside.new) (D.written aside.old) (D.written aside.new);
+    } in
         EndsBy (DueOfSolve (F.held shelf.old) model.now (map (λ f. f.now) files.now) brief e) (StopsOfSolve (F.held shelf.old) model.now (map (λ f. f.now) files.now) brief e) e.out result }
 {
     match flat_of_files(alloc, shelf, model, files) {

@@ -19,11 +19,7 @@ pub(crate) fn tell<'a, S: Sink>(out: &mut S, text: &[u8], ending: Ending<'a>) ->
 }
 
 /// Tells why there is no answer; where memory for that is wanting, tells that.
-pub(crate) fn refuse<'a, S: Sink>(
-    alloc: Global,
-    out: &mut S,
-    error: ErrorLine<'a>,
-) -> Ending<'a>
+pub(crate) fn refuse<'a, S: Sink>(alloc: Global, out: &mut S, error: ErrorLine<'a>) -> Ending<'a>
     ensures { TellsError error.entry (device (S.faults out.old) (S.faults out.new) (S.written out.old) (S.written out.new)) result }
 {
     match error {

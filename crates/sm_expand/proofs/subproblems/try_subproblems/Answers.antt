@@ -52,9 +52,9 @@ loop-var-preserved c = λ e count h.
     let real : is_real_kind d.declared.var.kind ≡ c.is_real.result = ap (λ (u : Var). is_real_kind u.kind) (sym (d.var v is)) ∙ sym c.is_real.ensures in
     let right : (is_real_kind d.declared.var.kind && is_torn (subs_of i e.posts)) ≡ false =
     elim c.else-is_real.branch [
-      else-is_real-via-then-is_real+else-is_torn w ↦ and_false (is_real_kind d.declared.var.kind) (is_torn (subs_of i e.posts))
+      | else-is_real-via-then-is_real+else-is_torn w ↦ and_false (is_real_kind d.declared.var.kind) (is_torn (subs_of i e.posts))
           (sym (torn_is e c.args.made.now i h lt) ∙ ap (λ (cs : List Constraint). is_torn (subs_in i cs)) (sym c.as_slice-constraints.ensures.value) ∙ sym w.is_torn.ensures ∙ w.if-is_torn.false)
-    | else-is_real-via-else-is_real w ↦ ap (λ (x : Bool). x && is_torn (subs_of i e.posts)) (real ∙ w.if-is_real.false)
+      | else-is_real-via-else-is_real w ↦ ap (λ (x : Bool). x && is_torn (subs_of i e.posts)) (real ∙ w.if-is_real.false)
     ] in
     subst (λ (k : ℕ). benders_tried e.posts k (drop (i + 1) e.variables) count ≡ benders_tried e.posts 0 e.variables count) (sym (add-one i))
     (sym (ap (λ ds. benders_tried e.posts i ds count) d.split ∙ benders_pass e.posts i d.declared (drop (i + 1) e.variables) count right) ∙ c.loop-var.invariant e count h)

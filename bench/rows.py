@@ -9,7 +9,7 @@ stands behind and below these. The expected answers were written by hand, or by 
 import sys
 
 SHOWN = {
-    "rows": ("status", "out", "first", "last", "count"),
+    "rows": ("status", "out", "first", "last", "count", "aside", "aside_first", "aside_last"),
     "test_logs": ("answer",),
     "test_texts": ("answer",),
 }

@@ -1,7 +1,7 @@
 //! A case: the words, the files and the devices of a run, and what came of it.
 use anyhow::{Context, Result, bail};
 use sm_base::{MemShelf, MemSink};
-use sm_commands::run;
+use sm_run::run;
 use std::alloc::{AllocError, Global};
 use test_tables::Entry;
 
@@ -22,6 +22,15 @@ struct NamedFile {
 pub struct Outcome {
     pub status: u8,
     pub put: Vec<u8>,
+    pub aside: Vec<u8>,
+}
+
+/// How a sink behaves.
+#[derive(Debug, Drop)]
+struct Device {
+    room: usize,
+    most: usize,
+    failing_puts: Vec<u64>,
 }
 
 /// A case.
@@ -29,9 +38,8 @@ pub struct Outcome {
 pub struct Case {
     words: Vec<String>,
     files: Vec<NamedFile>,
-    room: usize,
-    most: usize,
-    failing_puts: Vec<u64>,
+    out: Device,
+    aside: Device,
     failing_fetches: Vec<u64>,
     outcome: Option<Outcome>,
 }
@@ -54,15 +62,31 @@ fn words_of(alloc: Global, text: &str) -> Result<Vec<String>, AllocError> {
     Ok(words)
 }
 
+impl Device {
+    /// A sink that never fails while it has ample room.
+    fn new(alloc: Global) -> Device {
+        Device {
+            room: AMPLE,
+            most: AMPLE,
+            failing_puts: Vec::new(alloc),
+        }
+    }
+
+    fn sink(&self, alloc: Global) -> Result<MemSink> {
+        MemSink::new(alloc, self.room, self.most, &self.failing_puts)
+            .ok()
+            .context(NO_MEMORY)
+    }
+}
+
 impl Case {
     /// A case without words and files, whose devices never fail.
     pub fn new(alloc: Global) -> Case {
         Case {
             words: Vec::new(alloc),
             files: Vec::new(alloc),
-            room: AMPLE,
-            most: AMPLE,
-            failing_puts: Vec::new(alloc),
+            out: Device::new(alloc),
+            aside: Device::new(alloc),
             failing_fetches: Vec::new(alloc),
             outcome: None,
         }
@@ -92,12 +116,12 @@ impl Case {
     /// Runs the words.
     fn run(&self, alloc: Global) -> Result<Outcome> {
         let mut shelf = self.shelf(alloc)?;
-        let mut sink = MemSink::new(alloc, self.room, self.most, &self.failing_puts)
-            .ok()
-            .context(NO_MEMORY)?;
-        let status = run(alloc, &self.words, &mut shelf, &mut sink);
-        let put = Vec::from_slice(alloc, sink.written())?;
-        Ok(Outcome { status, put })
+        let mut out = self.out.sink(alloc)?;
+        let mut aside = self.aside.sink(alloc)?;
+        let status = run(alloc, &self.words, &mut shelf, &mut out, &mut aside);
+        let put = Vec::from_slice(alloc, out.written())?;
+        let aside = Vec::from_slice(alloc, aside.written())?;
+        Ok(Outcome { status, put, aside })
     }
 
     /// What comes of the words; they are run where they haven't been.
@@ -118,6 +142,13 @@ impl Case {
         Ok(())
     }
 
+    /// Adds what the words put aside as a file.
+    fn keep_aside(&mut self, alloc: Global, name: &str) -> Result<()> {
+        let outcome = self.run(alloc)?;
+        self.add_file(alloc, name, &outcome.aside)?;
+        Ok(())
+    }
+
     /// Takes what an entry says of the case.
     pub fn set(&mut self, alloc: Global, entry: &Entry) -> Result<()> {
         let value = entry.value.as_str();
@@ -125,11 +156,15 @@ impl Case {
             "words" => self.words = words_of(alloc, value)?,
             "word" => self.words.push(String::from_str(alloc, value)?)?,
             "file" => self.add_file(alloc, value, &entry.text)?,
-            "room" => self.room = value.parse::<usize>()?,
-            "most" => self.most = value.parse::<usize>()?,
-            "puts" => self.failing_puts = numbers_of(alloc, value)?,
+            "room" => self.out.room = value.parse::<usize>()?,
+            "most" => self.out.most = value.parse::<usize>()?,
+            "puts" => self.out.failing_puts = numbers_of(alloc, value)?,
+            "aside_room" => self.aside.room = value.parse::<usize>()?,
+            "aside_most" => self.aside.most = value.parse::<usize>()?,
+            "aside_puts" => self.aside.failing_puts = numbers_of(alloc, value)?,
             "fetches" => self.failing_fetches = numbers_of(alloc, value)?,
             "keep" => self.keep(alloc, value)?,
+            "keep_aside" => self.keep_aside(alloc, value)?,
             other => bail!("{other} is no key of a case"),
         }
         self.outcome = None;

@@ -1,9 +1,12 @@
-//! Runs the program on tables of cases, over a shelf and a sink in memory, and puts what each case showed.
+//! Runs the program on tables of cases, over a shelf and two sinks in memory, and puts what each case showed.
 //!
-//! The arguments name the tables. The keys of a case: `case` and its name; `words`, a command line; `file`, a name, with the
-//! text of that file; `room` and `most`, how many bytes the sink takes in all and at a put; `puts` and `fetches`, the numbers,
-//! from 1, of those that fail; `keep`, a name, under which what these words put becomes a file, before further words.
-//! What is shown: `status`; of what was put `out`, all of it, `first` and `last`, a line, and `count`, the number of bytes.
+//! The arguments name the tables. The keys of a case: `case` and its name; `words`, a command line, or `word`, one more word;
+//! `file`, a name, with the text of that file; `room` and `most`, how many bytes the sink takes in all and at a put; `puts` and
+//! `fetches`, the numbers, from 1, of those that fail; `aside_room`, `aside_most` and `aside_puts`, the same of the sink for
+//! what is put aside; `keep`, a name, under which what these words put becomes a file, before further words, and `keep_aside`
+//! for what they put aside.
+//! What is shown: `status`; of what was put `out`, all of it, `first` and `last`, a line, and `count`, the number of bytes; of
+//! what was put aside `aside`, `aside_first` and `aside_last`.
 //! What stands in a table below those, or behind `status` and `count`, is the expected answer, which the stored output has too;
 //! it isn't looked at.
 #![tactic(auto)]
@@ -42,6 +45,9 @@ fn put(answers: &mut Answers, key: &str, outcome: &Outcome) -> Result<()> {
         "first" => answers.put_text(key, first_line(&outcome.put))?,
         "last" => answers.put_text(key, last_line(&outcome.put))?,
         "count" => answers.put_number(key, outcome.put.len() as u64)?,
+        "aside" => answers.put_text(key, &outcome.aside)?,
+        "aside_first" => answers.put_text(key, first_line(&outcome.aside))?,
+        "aside_last" => answers.put_text(key, last_line(&outcome.aside))?,
         other => bail!("{other} is no key of an answer"),
     }
     Ok(())
@@ -50,7 +56,7 @@ fn put(answers: &mut Answers, key: &str, outcome: &Outcome) -> Result<()> {
 /// Takes an entry into a case, or shows what it asks for.
 fn take(alloc: Global, case: &mut Case, answers: &mut Answers, entry: &Entry) -> Result<()> {
     match entry.key.as_str() {
-        "status" | "out" | "first" | "last" | "count" => {
+        "status" | "out" | "first" | "last" | "count" | "aside" | "aside_first" | "aside_last" => {
             let outcome = case.outcome(alloc)?;
             put(answers, entry.key.as_str(), outcome)
         }

@@ -1,9 +1,10 @@
-//! An optimiser whose answers are proved: `simpl solve MODEL` writes the proof log of a search, which ends in the verdict,
-//! and `simpl check MODEL LOG` says whether a log proves its verdict.
+//! An optimiser whose answers are proved: `simpl solve MODEL [DATA ...]` writes the proof log of a search, which ends in the
+//! verdict, or with `--brief` the best solution and the verdict alone; `simpl check MODEL [DATA ...] LOG` says whether a log
+//! proves its verdict.
 #![tactic(auto)]
 
-use sm_base::{DiskShelf, StdSink};
-use sm_commands::run;
+use sm_base::{DiskShelf, NullSink, StdSink};
+use sm_run::run;
 use std::alloc::Global;
 use std::env;
 use std::process::ExitCode;
@@ -26,5 +27,6 @@ fn main(rt: HostRuntime) -> ExitCode {
     };
     let mut shelf = DiskShelf::new(&rt);
     let mut out = StdSink::new(&rt);
-    ExitCode::from(run(rt.alloc(), &words, &mut shelf, &mut out))
+    let mut aside = NullSink::new();
+    ExitCode::from(run(rt.alloc(), &words, &mut shelf, &mut out, &mut aside))
 }

@@ -1,5 +1,5 @@
 -- Why files have no flat model, from what refused them to what is told.
-use Rattle.std.proofs.Common.{◌≡◌, ◌∙◌, ap, sym, refl, subst, arith, inl, inr, ℕ, ◌+◌, ◌<◌, suc, List, ◌∷◌, ◌++◌, length, Some, None, length-append}
+use Rattle.std.proofs.Common.{◌≡◌, ◌∙◌, ap, sym, refl, subst, arith, inl, inr, ℕ, ◌+◌, ◌<◌, ◌≤◌, suc, List, ◌∷◌, ◌++◌, length, Some, None, length-append}
 use Rattle.std.specs.Prelude.{Result, Ok, Err, IfOk, IfErr}
 use Rattle.sm_flat.specs.Models.{FlatModel}
 use Rattle.sm_data.specs.Documents.{Entry}
@@ -9,7 +9,7 @@ use Rattle.sm_loading.specs.declared.refusal.LoadRefusal.TheVariants as load
 use Rattle.sm_loading.specs.Loading.{Held, IsLoaded, IsLoadCause}
 use Rattle.sm_reports.specs.declared.error.ErrorLine.{ErrorLine}
 use Rattle.sm_reports.specs.declared.error.ErrorLine.TheVariants as error
-use Rattle.sm_run.specs.Causes.{OfFiles, OfModel, IsModelOf, IsFlatOfFiles, IsOfFiles, IsExpandCause, IsModelCause}
+use Rattle.sm_run.specs.Causes.{OfFiles, OfModel, IsModelOf, IsFlatOfFiles, IsOfFiles, IsExpandCause, IsModelCause, IsRefusal}
 
 -- a data file that is refused is one of the files
 pub of_files : (held : Held) (model : List ℕ) (files : List (List ℕ)) (before now : ℕ) (r : LoadRefusal) → IsLoadCause held model files before now r → IsOfFiles (length files) r
@@ -37,6 +37,15 @@ expand_cause held model files before now whole tables (error.Limit what found bo
 pub of_model : (held : Held) (model : List ℕ) (files : List (List ℕ)) (m : FlatModel) (P : Tree → List Entry → FlatModel → Type 0) (h : IsFlatOfFiles held model files m)
     → P h.whole h.tables m → OfModel held model files P
 of_model held model files m P h holds = record { whole = h.whole; tables = h.tables; flat = m; loaded = h.loaded; is = h.holds; holds = holds }
+
+-- where there are few data files, the first cause is any
+pub few_refused : (held : Held) (model : List ℕ) (files : List (List ℕ)) (before now : ℕ) (line : ErrorLine) → length files ≤ 64 → IsModelCause held model files before now line
+    → IsRefusal held model files before now line
+few_refused held model files before now line few cause = record { cause = cause; first = λ more. absurd (omega (arith, few, more)) }
+
+-- want of memory needs no cause
+pub memory_refused : (held : Held) (model : List ℕ) (files : List (List ℕ)) (before now : ℕ) → IsRefusal held model files before now error.Memory
+memory_refused held model files before now = record { cause = tt; first = λ more. inr refl }
 
 -- ---- results
 

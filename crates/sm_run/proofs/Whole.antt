@@ -12,12 +12,12 @@ use Rattle.sm_arguments.specs.Request.{Asked, solve, check, asked_by}
 use Rattle.sm_run.specs.declared.ending.Ending.{Ending}
 use Rattle.sm_run.specs.declared.ending.Ending.TheVariants as ending
 use Rattle.sm_run.specs.Devices.{Given, Device, Effects, Puts}
-use Rattle.sm_run.specs.Causes.{IsFlatOfFiles, IsEarly, IsModelCause}
+use Rattle.sm_run.specs.Causes.{IsFlatOfFiles, IsEarly, IsRefusal}
 use Rattle.sm_run.specs.Endings.{early_text, DueOfSolve, StopsOfSolve, DueOfCheck, DueOfNothing, Due, Stops, EndsBy, Ends}
 use Rattle.sm_run.specs.Telling.{IsTold, TellsError}
 use Rattle.sm_run.specs.Searching.{DueOfLog, EndsLog, DueOfBrief, BreaksAside, EndsBrief, DueOfLogCheck, EndsCheck}
 use Rattle.sm_run.proofs.Told.{rose_later, ends_told, ends_refused, ends_weaker}
-use Rattle.sm_run.proofs.Loads.{of_model}
+use Rattle.sm_run.proofs.Loads.{of_model, few_refused, memory_refused}
 
 module _ (held : Held) (model : List ℕ) (files : List (List ℕ)) (e : Effects) where
   -- ---- searches
@@ -25,7 +25,7 @@ module _ (held : Held) (model : List ℕ) (files : List (List ℕ)) (e : Effects
   module _ (m : FlatModel) (h : IsFlatOfFiles held model files m) where
     log_due : Puts e.aside [] → (own : Ending) (text : List ℕ) → DueOfLog h.whole h.tables m own text → DueOfSolve held model files false e own text
     log_due none (ending.Solved o) text (v, is, proved) = of_model held model files m _ h (v, is, (proved, none))
-    log_due none (ending.Refused line) text (is, memory) = (is, inl (subst (λ (l : ErrorLine). IsModelCause held model files e.read_before e.read_now l) (sym memory) tt, none))
+    log_due none (ending.Refused line) text (is, memory) = (is, inl (subst (λ (l : ErrorLine). IsRefusal held model files e.read_before e.read_now l) (sym memory) (memory_refused held model files e.read_before e.read_now), none))
     log_due none ending.Accepted text k = absurd k
     log_due none ending.LogRefused text k = absurd k
     log_due none ending.Early text k = absurd k
@@ -55,10 +55,10 @@ module _ (held : Held) (model : List ℕ) (files : List (List ℕ)) (e : Effects
     early_solve brief end early none told =
         ends_told (DueOfSolve held model files brief e) (StopsOfSolve held model files brief e) e.out ending.Early end early_text tt (refl, of_model held model files m _ h early, none) told
 
-  pub refused_solve : (brief : Bool) (line : ErrorLine) (end : Ending) → IsModelCause held model files e.read_before e.read_now line → Puts e.aside [] → TellsError line e.out end
+  pub refused_solve : (brief : Bool) (line : ErrorLine) (end : Ending) → IsRefusal held model files e.read_before e.read_now line → Puts e.aside [] → TellsError line e.out end
       → EndsBy (DueOfSolve held model files brief e) (StopsOfSolve held model files brief e) e.out end
   refused_solve brief line end cause none told =
-      ends_refused (DueOfSolve held model files brief e) (StopsOfSolve held model files brief e) e.out line end (refl, inl (cause, none)) (refl, inl (tt, none)) told
+      ends_refused (DueOfSolve held model files brief e) (StopsOfSolve held model files brief e) e.out line end (refl, inl (cause, none)) (refl, inl (memory_refused held model files e.read_before e.read_now, none)) told
 
   -- ---- checks
 
@@ -66,10 +66,10 @@ module _ (held : Held) (model : List ℕ) (files : List (List ℕ)) (e : Effects
     abbrev no_stop : WorkRefusal → Type 0
     no_stop r = ⊥
 
-    pub refused_check : (line : ErrorLine) (end : Ending) → IsModelCause held model files e.read_before e.read_now line → Puts e.aside [] → TellsError line e.out end
+    pub refused_check : (line : ErrorLine) (end : Ending) → IsRefusal held model files e.read_before e.read_now line → Puts e.aside [] → TellsError line e.out end
         → EndsBy (DueOfCheck held model files log e) no_stop e.out end
     refused_check line end cause none told =
-        ends_refused (DueOfCheck held model files log e) no_stop e.out line end (refl, inl cause, none) (refl, inl tt, none) told
+        ends_refused (DueOfCheck held model files log e) no_stop e.out line end (refl, inl cause, none) (refl, inl (memory_refused held model files e.read_before e.read_now), none) told
 
     module _ (m : FlatModel) (h : IsFlatOfFiles held model files m) where
       pub early_check : (end : Ending) → IsEarly m → Puts e.aside [] → IsTold e.out early_text ending.Early end → EndsBy (DueOfCheck held model files log e) no_stop e.out end
@@ -80,9 +80,9 @@ module _ (held : Held) (model : List ℕ) (files : List (List ℕ)) (e : Effects
       check_due before le none ending.Accepted text k = (of_model held model files m _ h k, none)
       check_due before le none ending.LogRefused text k = (of_model held model files m _ h k, none)
       check_due before le none (ending.Refused line) text (is, inl (read, rose)) =
-          (is, inl (subst (λ (l : ErrorLine). IsModelCause held model files e.read_before e.read_now l) (sym read) (rose_later e.read_before before e.read_now le rose)), none)
+          (is, inl (subst (λ (l : ErrorLine). IsRefusal held model files e.read_before e.read_now l) (sym read) (few_refused held model files e.read_before e.read_now error.Read h.loaded.few (rose_later e.read_before before e.read_now le rose))), none)
       check_due before le none (ending.Refused line) text (is, inr (inl memory)) =
-          (is, inl (subst (λ (l : ErrorLine). IsModelCause held model files e.read_before e.read_now l) (sym memory) tt), none)
+          (is, inl (subst (λ (l : ErrorLine). IsRefusal held model files e.read_before e.read_now l) (sym memory) (memory_refused held model files e.read_before e.read_now)), none)
       check_due before le none (ending.Refused line) text (is, inr (inr cause)) = (is, inr (of_model held model files m _ h cause), none)
       check_due before le none (ending.Solved o) text k = absurd k
       check_due before le none ending.Early text k = absurd k
@@ -112,8 +112,8 @@ module _ (given : Given) (e : Effects) where
 
   memory_due : (asked : Option Asked) → asked_by given.words ≡ asked → Puts e.aside [] → Due given e (ending.Refused error.Memory) (error_text error.Memory)
   memory_due None is aside = rw is (refl, aside)
-  memory_due (Some (solve model files brief)) is aside = rw is (refl, inl (tt, aside))
-  memory_due (Some (check model files log)) is aside = rw is (refl, inl tt, aside)
+  memory_due (Some (solve model files brief)) is aside = rw is (refl, inl (memory_refused given.held model files e.read_before e.read_now, aside))
+  memory_due (Some (check model files log)) is aside = rw is (refl, inl (memory_refused given.held model files e.read_before e.read_now), aside)
 
   pub ends_memory : (end : Ending) → Puts e.aside [] → TellsError error.Memory e.out end → Ends given e end
   ends_memory end aside told =

@@ -1,11 +1,12 @@
 -- Files of a model, and why they have no flat model that can be searched.
-use Rattle.std.specs.Prelude.{◌≡◌, ◌⊎◌, ◌<◌, ℕ, List, Some, None, is_some, slice_get, Bool, true, ◌||◌}
+use Rattle.std.specs.Prelude.{◌≡◌, ◌⊎◌, ◌<◌, ℕ, pos, List, length, Some, None, is_some, slice_get, Bool, true, ◌||◌}
 use Rattle.std.specs.List.{list_any}
 use Rattle.sm_base.specs.Causes.{Rose}
 use Rattle.sm_kinds.specs.declared.var.Var.{Var}
 use Rattle.sm_kinds.specs.Vars.{is_real_kind}
 use Rattle.sm_flat.specs.declared.form.Constraint.{Constraint}
 use Rattle.sm_flat.specs.Models.{FlatModel}
+use Rattle.sm_data.specs.declared.refusal.Counted.TheVariants as counted
 use Rattle.sm_data.specs.declared.refusal.DataCause.{DataCause}
 use Rattle.sm_data.specs.Documents.{Entry}
 use Rattle.sm_syntax.specs.Trees.{Tree}
@@ -64,6 +65,15 @@ IsModelCause held model files before now (error.Data file cause) = IsDataCause h
 IsModelCause held model files before now (error.Limit what found bound) =
     IsLoadCause held model files before now (load.Limit what found bound)
     ⊎ OfFiles held model files (λ whole tables. refusal_in whole tables ≡ Some (refusal.Limit what found bound))
+
+-- too many data files, which are told before anything is read
+abbrev pub files_limit : ErrorLine
+files_limit = error.Limit counted.Files (pos 65) (pos 64)
+
+-- why files have no flat model, as it is told first
+pub record IsRefusal (held : Held) (model : List ℕ) (files : List (List ℕ)) (before now : ℕ) (line : ErrorLine) : Type 0 where
+  pub cause : IsModelCause held model files before now line
+  pub first : 64 < length files → (line ≡ files_limit) ⊎ (line ≡ error.Memory)
 
 -- ---- on the way
 

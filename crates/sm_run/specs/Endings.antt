@@ -25,7 +25,7 @@ use Rattle.sm_run.specs.declared.ending.Ending.TheVariants as ending
 use Rattle.sm_run.specs.declared.ending.Outcome.{Outcome}
 use Rattle.sm_run.specs.declared.ending.Outcome.TheVariants as outcome
 use Rattle.sm_run.specs.Devices.{Given, Device, Effects, Puts, Fails}
-use Rattle.sm_run.specs.Causes.{OfModel, IsEarly, IsModelCause}
+use Rattle.sm_run.specs.Causes.{OfModel, IsEarly, IsRefusal}
 
 -- ---- statuses
 
@@ -112,7 +112,7 @@ DueOfSolve held model files brief e (ending.Solved o) text =
     OfModel held model files (λ whole tables m. (v : Verdict) × (o ≡ outcome_of v) × IsSolution brief e.aside whole tables m v text)
 DueOfSolve held model files brief e (ending.Refused line) text =
     (text ≡ error_text line)
-    × ((IsModelCause held model files e.read_before e.read_now line × Puts e.aside [])
+    × ((IsRefusal held model files e.read_before e.read_now line × Puts e.aside [])
     ⊎ ((brief ≡ true) × OfModel held model files (λ whole tables m. StopsAside e.aside m line ⊎ EndsAside e.aside whole tables m line)))
 DueOfSolve held model files brief e ending.Early text = (text ≡ early_text) × OfModel held model files (λ whole tables m. IsEarly m) × Puts e.aside []
 DueOfSolve held model files brief e _ text = ⊥
@@ -128,7 +128,7 @@ DueOfCheck held model files log e ending.LogRefused text =
     OfModel held model files (λ whole tables m. (k : ℕ) × (c : Cause) × OfFile (held log) (λ bytes. FailsAt m bytes k c) × (text ≡ refused_line k c)) × Puts e.aside []
 DueOfCheck held model files log e (ending.Refused line) text =
     (text ≡ error_text line)
-    × (IsModelCause held model files e.read_before e.read_now line ⊎ OfModel held model files (λ whole tables m. IsLogCause (held log) line))
+    × (IsRefusal held model files e.read_before e.read_now line ⊎ OfModel held model files (λ whole tables m. IsLogCause (held log) line))
     × Puts e.aside []
 DueOfCheck held model files log e ending.Early text = (text ≡ early_text) × OfModel held model files (λ whole tables m. IsEarly m) × Puts e.aside []
 DueOfCheck held model files log e _ text = ⊥

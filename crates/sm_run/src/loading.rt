@@ -1,12 +1,14 @@
 //! The flat model of files.
-ghost use Rattle.std.specs.Prelude.{◌≡◌, ◌≤◌, ℕ, List, map, length, is_some, Err, IfOk, IfErr};
+ghost use Rattle.std.specs.Prelude.{◌≡◌, ◌≤◌, ℕ, pos, List, map, length, is_some, Err, IfOk, IfErr};
 ghost use Rattle.std.specs.List.{list_any};
 ghost use Rattle.sm_kinds.specs.Vars.{is_real_kind};
 ghost use Rattle.sm_data.specs.Documents.{Entry};
 ghost use Rattle.sm_syntax.specs.Trees.{Tree, tree_of};
+ghost use Rattle.sm_data.specs.declared.refusal.Counted.TheVariants.{Files};
+ghost use Rattle.sm_loading.specs.declared.refusal.LoadRefusal.TheVariants as load;
 ghost use Rattle.sm_loading.specs.Loading.{Held, IsLoadCause};
 ghost use Rattle.sm_expand.specs.Expanding.{ComesTo};
-ghost use Rattle.sm_run.specs.Causes.{IsModelOf, IsFlatOfFiles, IsOfFiles, IsExpandCause, IsModelCause};
+ghost use Rattle.sm_run.specs.Causes.{IsModelOf, IsFlatOfFiles, IsOfFiles, IsExpandCause, IsModelCause, IsRefusal, files_limit};
 ghost use Rattle.sm_run.specs.Causes as early;
 
 use sm_base::Shelf;
@@ -21,8 +23,9 @@ use std::alloc::Global;
 /// Why files aren't loaded, as it is told.
 fn error_of_load<'a>(refusal: LoadRefusal, files: &[&'a str]) -> ErrorLine<'a>
     requires { IsOfFiles (length files.now) refusal }
-    ensures { (held : Held) (model : List ℕ) (before now : ℕ) → IsLoadCause held model (map (λ f. f.now) files.now) before now refusal →
+    ensures cause { (held : Held) (model : List ℕ) (before now : ℕ) → IsLoadCause held model (map (λ f. f.now) files.now) before now refusal →
         IsModelCause held model (map (λ f. f.now) files.now) before now result }
+    ensures files { refusal ≡ load.Limit Files (pos 65) (pos 64) → result ≡ files_limit }
 {
     match refusal {
         LoadRefusal::ReadFault => ErrorLine::Read,
@@ -73,7 +76,7 @@ pub(crate) fn flat_of_files<'a, F: Shelf>(
     files: &[&'a str],
 ) -> Result<Flat, ErrorLine<'a>>
     ensures flat { IfOk result (λ m. IsFlatOfFiles (F.held shelf.old) model.now (map (λ f. f.now) files.now) m) }
-    ensures cause { IfErr result (IsModelCause (F.held shelf.old) model.now (map (λ f. f.now) files.now) (F.faults shelf.old) (F.faults shelf.new)) }
+    ensures cause { IfErr result (IsRefusal (F.held shelf.old) model.now (map (λ f. f.now) files.now) (F.faults shelf.old) (F.faults shelf.new)) }
     ensures same { (q : List ℕ) → F.held shelf.new q ≡ F.held shelf.old q }
     ensures later { F.faults shelf.old ≤ F.faults shelf.new }
 {

@@ -62,7 +62,7 @@ proves_text whole tables m before now s h is =
     record { proves = proved; holds = true_of_text whole tables m is.flat proved.ends.state.best s.verdict proved.holds }
 
 pub log_put : (whole : Tree) (tables : List Entry) (m : FlatModel) (d : Device) (s : Solved) → HasSolved m d.before d.now s → IsModelOf whole tables m → EndsLog whole tables m d (ending.Solved (outcome_of s.verdict))
-log_put whole tables m d s h is = (log_of m d.before d.now s h, (s.verdict, refl, proves_text whole tables m d.before d.now s h is), h.went.told)
+log_put whole tables m d s h is = (log_of m d.before d.now s h, (s.verdict, h.decided, refl, proves_text whole tables m d.before d.now s h is), h.went.told)
 
 -- a search halted whose log goes to the output
 pub log_halted : (whole : Tree) (tables : List Entry) (m : FlatModel) (a b c : ℕ) (x y z : Option (List ℕ)) (h : Halt) (end : Ending) → a ≤ b
@@ -88,7 +88,7 @@ brief_put whole tables m out aside s end h is (inl told) =
     let text = brief_text m.vars s.best s.verdict in
     let same : text ≡ brief_text m.vars h.place.state.best s.verdict = ap (λ b. brief_text m.vars b s.verdict) (sym h.best) in
     ends_told (DueOfBrief whole tables m aside) (BreaksAside m out aside) out (ending.Solved (outcome_of s.verdict)) end text tt
-    (s.verdict, refl, (log_of m aside.before aside.now s h, proves_text whole tables m aside.before aside.now s h is, h.went.told, same)) told
+    (s.verdict, h.decided, refl, (log_of m aside.before aside.now s h, proves_text whole tables m aside.before aside.now s h is, h.went.told, same)) told
 brief_put whole tables m out aside s end h is (inr told) =
     let left : DueOfBrief whole tables m aside (ending.Refused error.Memory) (error_text error.Memory) =
     (refl, inr (record { verdict = s.verdict; log = log_of m aside.before aside.now s h; proved = proves_text whole tables m aside.before aside.now s h is; put = h.went.told; told = refl })) in

@@ -24,7 +24,7 @@ module _ (held : Held) (model : List ℕ) (files : List (List ℕ)) (e : Effects
 
   module _ (m : FlatModel) (h : IsFlatOfFiles held model files m) where
     log_due : Puts e.aside [] → (own : Ending) (text : List ℕ) → DueOfLog h.whole h.tables m own text → DueOfSolve held model files false e own text
-    log_due none (ending.Solved o) text (v, is, proved) = of_model held model files m _ h (v, is, (proved, none))
+    log_due none (ending.Solved o) text (v, decided, is, proved) = of_model held model files m _ h (v, decided, is, (proved, none))
     log_due none (ending.Refused line) text (is, memory) = (is, inl (subst (λ (l : ErrorLine). IsRefusal held model files e.read_before e.read_now l) (sym memory) (memory_refused held model files e.read_before e.read_now), none))
     log_due none ending.Accepted text k = absurd k
     log_due none ending.LogRefused text k = absurd k
@@ -38,7 +38,7 @@ module _ (held : Held) (model : List ℕ) (files : List (List ℕ)) (e : Effects
         (log_due none) (λ r stopped. (of_model held model files m _ h stopped, none)) ends
 
     brief_due : (own : Ending) (text : List ℕ) → DueOfBrief h.whole h.tables m e.aside own text → DueOfSolve held model files true e own text
-    brief_due (ending.Solved o) text (v, is, solution) = of_model held model files m _ h (v, is, solution)
+    brief_due (ending.Solved o) text (v, decided, is, solution) = of_model held model files m _ h (v, decided, is, solution)
     brief_due (ending.Refused line) text (is, left) = (is, inr (refl, of_model held model files m _ h left))
     brief_due ending.Accepted text k = absurd k
     brief_due ending.LogRefused text k = absurd k

@@ -11,6 +11,7 @@ use Rattle.sm_check.specs.Replays.{FailsAt}
 use Rattle.sm_check.specs.Checks.{Proves, OfFile}
 use Rattle.sm_search.specs.declared.refusal.WorkRefusal.{WorkRefusal}
 use Rattle.sm_search.specs.declared.refusal.WorkRefusal.TheVariants as work
+use Rattle.sm_search.specs.Turns.{IsDecided}
 use Rattle.sm_search.specs.Went.{begin, Stopped}
 use Rattle.sm_arguments.specs.Request.{Asked, solve, check, asked_by}
 use Rattle.sm_loading.specs.Loading.{Held}
@@ -109,7 +110,7 @@ pub record EndsAside (aside : Device) (whole : Tree) (tables : List Entry) (m : 
 -- this is due in the end, and how the run ends with it
 abbrev pub DueOfSolve : Held → List ℕ → List (List ℕ) → Bool → Effects → Ending → List ℕ → Type 0
 DueOfSolve held model files brief e (ending.Solved o) text =
-    OfModel held model files (λ whole tables m. (v : Verdict) × (o ≡ outcome_of v) × IsSolution brief e.aside whole tables m v text)
+    OfModel held model files (λ whole tables m. (v : Verdict) × IsDecided v × (o ≡ outcome_of v) × IsSolution brief e.aside whole tables m v text)
 DueOfSolve held model files brief e (ending.Refused line) text =
     (text ≡ error_text line)
     × ((IsRefusal held model files e.read_before e.read_now line × Puts e.aside [])

@@ -9,6 +9,7 @@ use Rattle.sm_check.specs.Replays.{FailsAt}
 use Rattle.sm_check.specs.Checks.{OfFile}
 use Rattle.sm_search.specs.declared.refusal.WorkRefusal.{WorkRefusal}
 use Rattle.sm_search.specs.declared.refusal.WorkRefusal.TheVariants as work
+use Rattle.sm_search.specs.Turns.{IsDecided}
 use Rattle.sm_search.specs.Went.{begin, Stopped}
 use Rattle.sm_search.specs.declared.running.Halt.{Halt}
 use Rattle.sm_search.specs.declared.solved.Solved.{Solved}
@@ -26,7 +27,7 @@ use Rattle.sm_run.specs.Endings.{outcome_of, ProvesText, IsSolution, IsWorkLine,
 
 -- a search whose log goes to the output
 abbrev pub DueOfLog : Tree → List Entry → FlatModel → Ending → List ℕ → Type 0
-DueOfLog whole tables m (ending.Solved o) text = (v : Verdict) × (o ≡ outcome_of v) × ProvesText whole tables m text v
+DueOfLog whole tables m (ending.Solved o) text = (v : Verdict) × IsDecided v × (o ≡ outcome_of v) × ProvesText whole tables m text v
 DueOfLog whole tables m (ending.Refused line) text = (text ≡ error_text line) × (line ≡ error.Memory)
 DueOfLog whole tables m _ text = ⊥
 
@@ -35,7 +36,7 @@ EndsLog whole tables m out = EndsBy (DueOfLog whole tables m) (Stopped m (begin 
 
 -- a search whose log goes aside
 abbrev pub DueOfBrief : Tree → List Entry → FlatModel → Device → Ending → List ℕ → Type 0
-DueOfBrief whole tables m aside (ending.Solved o) text = (v : Verdict) × (o ≡ outcome_of v) × IsSolution true aside whole tables m v text
+DueOfBrief whole tables m aside (ending.Solved o) text = (v : Verdict) × IsDecided v × (o ≡ outcome_of v) × IsSolution true aside whole tables m v text
 DueOfBrief whole tables m aside (ending.Refused line) text = (text ≡ error_text line) × (StopsAside aside m line ⊎ EndsAside aside whole tables m line)
 DueOfBrief whole tables m aside _ text = ⊥
 

@@ -34,6 +34,27 @@ cut_last [] none lt = absurd (omega (arith, lt))
 cut_last (b ∷ []) none lt = rw (not_end b [] none) refl
 cut_last (b ∷ c ∷ cs) none lt = rw (not_end b (c ∷ cs) none, cut_last (c ∷ cs) (rest_none b (c ∷ cs) none) (omega arith)) refl
 
+-- bytes that no line end is in yet, with what comes before the next one, and the pieces behind
+pub record Begun (bytes more : List ℕ) : Type 0 where
+  pub front : List ℕ
+  pub rest : List (List ℕ)
+  pub is : cut (bytes ++ more) ≡ (bytes ++ front) ∷ rest
+
+begun_more : (b : ℕ) (xs more front : List ℕ) (rest : List (List ℕ)) → (b == 10) ≡ false → cut (xs ++ more) ≡ (xs ++ front) ∷ rest → cut ((b ∷ xs) ++ more) ≡ ((b ∷ xs) ++ front) ∷ rest
+begun_more b xs more front rest other e = rw (other, e) refl
+
+-- they are the beginning of one piece
+pub cut_begun : (xs more : List ℕ) → HasNoEnd xs → 0 < length xs → Begun xs more
+cut_begun [] more none lt = absurd (omega (arith, lt))
+cut_begun (b ∷ []) more none lt = pick (cut more) refl
+  where
+    pick : (pieces : List (List ℕ)) → cut more ≡ pieces → Begun (b ∷ []) more
+    pick [] e = record { front = []; rest = []; is = rw (not_end b [] none, e) refl }
+    pick (p ∷ ps) e = record { front = p; rest = ps; is = rw (not_end b [] none, e) refl }
+cut_begun (b ∷ c ∷ cs) more none lt =
+    let begun : Begun (c ∷ cs) more = cut_begun (c ∷ cs) more (rest_none b (c ∷ cs) none) (omega arith) in
+    record { front = begun.front; rest = begun.rest; is = begun_more b (c ∷ cs) more begun.front begun.rest (not_end b (c ∷ cs) none) begun.is }
+
 -- ---- lines
 
 has_end : (xs : List ℕ) → HasNoEnd (xs ++ 10 ∷ []) → ⊥

@@ -3,7 +3,7 @@ use Rattle.std.proofs.Common.{◌≡◌, ◌≢◌, ◌++◌, ◌+◌, ◌-◌, 
 use Rattle.std.specs.Prelude.{IfSome}
 use Rattle.std.proofs.Math.Seq.{take-add}
 use Rattle.std.proofs.lemmas.List.{drop-drop, take_at}
-use Rattle.sm_check.specs.Feeds.{Fed, HasNoEnd, IsPiece, Fetches, Gathers, Readies}
+use Rattle.sm_check.specs.Feeds.{Fed, HasNoEnd, IsPiece, IsTooLong, Fetches, Gathers, Readies}
 
 told_none : (held : Option (List ℕ)) (place : ℕ) → IfSome held (λ file. [] ≡ take 0 (drop place file))
 told_none None place = tt
@@ -43,8 +43,11 @@ readies_end held now a b c n same g f none single =
     record {
       gathers = gathers_more held now a b c n same g f;
       within = rw left (omega arith);
-      front = inr (ap length (sym left), rw left single, rw place (ends_now held now n b.place same none f.ends));
+      front = inr (ap length (sym left), rw left single, inl (rw place (ends_now held now n b.place same none f.ends)));
     }
+
+pub readies_long : (held : Option (List ℕ)) (a b : Fed) (n : ℕ) → Gathers held a b → n ≡ length b.left → HasNoEnd b.left → IsTooLong b.left → Readies held a b n
+readies_long held a b n g all single long = record { gathers = g; within = omega (arith, all); front = inr (all, single, inr long) }
 
 -- ---- the loop
 

@@ -9,6 +9,7 @@ use Rattle.sm_step.specs.declared.line.Line.{Line}
 use Rattle.sm_step.specs.declared.verdict.Verdict.{Verdict}
 use Rattle.sm_step.specs.Text.{text_of}
 use Rattle.sm_step.specs.Grammar.{IsLine}
+use Rattle.sm_step.proofs.Lines.{begins_none}
 use Rattle.sm_rules.specs.declared.cause.Cause.{Cause}
 use Rattle.sm_rules.specs.declared.cause.Cause.TheVariants.{End}
 use Rattle.sm_rules.specs.declared.cause.Cause.TheVariants as cause
@@ -24,9 +25,9 @@ use Rattle.sm_check.specs.Replays.{cut, IsRefusedPiece, FailsNext, FailsAt}
 use Rattle.sm_check.specs.declared.refusal.CheckRefusal.{CheckRefusal}
 use Rattle.sm_check.specs.declared.refusal.CheckRefusal.TheVariants.{Refused, ReadFault, LogTooLong, OutOfMemory}
 use Rattle.sm_check.specs.Checks.{Proves, OfFile, IsFeedCause, IsCheckCause}
-use Rattle.sm_check.specs.Feeds.{Fed, IsPiece, IsFront, Readies}
+use Rattle.sm_check.specs.Feeds.{Fed, IsPiece, IsTooLong, IsFront, Readies}
 use Rattle.sm_check.specs.Readings.{Sight, first_sight, IsAt, IsAtEnd, IsApplied, IsApplyCause, unread}
-use Rattle.sm_check.proofs.Cutting.{cut_piece, cut_last, text_has_end, text_some}
+use Rattle.sm_check.proofs.Cutting.{Begun, cut_piece, cut_last, cut_begun, text_has_end, text_some}
 use Rattle.sm_check.proofs.Truths.{log_is_true, log_is_true_on}
 
 replays_push : (m : FlatModel) (a b : State) (xs : List Line) (l : Line) → Replays m a xs b → Allowed m b l → Replays m a (xs ++ l ∷ []) (after m b l)
@@ -132,21 +133,50 @@ whole_of (Some file) place bytes left told = record {
   ends = λ le. drop_all place file le;
 }
 
--- the piece at the front, and the pieces behind it
+-- bytes that are too many are refused, and so is the piece that they begin, for the same cause
+long_refused : (m : FlatModel) (s : State) (left front : List ℕ) (c : Cause) → IsTooLong left → IsRefusedPiece m s left c → IsRefusedPiece m s (left ++ front) c
+long_refused m s left front c long fact = pick c fact
+  where
+    no_line : (l : Line) → IsLine l → left ≡ text_of l → ⊥
+    no_line l good is = begins_none left long.0 long.1 l [] good (append-nil left ∙ is)
+
+    pick : (c : Cause) → IsRefusedPiece m s left c → IsRefusedPiece m s (left ++ front) c
+    pick cause.Grammar fact = λ l good is. begins_none left long.0 long.1 l front good is
+    pick cause.Order (l, good, text, refused) = absurd (no_line l good text)
+    pick cause.Law (l, good, text, refused) = absurd (no_line l good text)
+    pick cause.Verdict (l, good, text, refused) = absurd (no_line l good text)
+    pick cause.End (l, good, text, refused) = absurd (no_line l good text)
+
+-- the first piece of what is left, refused where the first n bytes are, and the pieces behind it
 record Fronted (n : ℕ) (left more : List ℕ) : Type 0 where
+  piece : List ℕ
   rest : List (List ℕ)
-  is : cut (left ++ more) ≡ take n left ∷ rest
+  is : cut (left ++ more) ≡ piece ∷ rest
+  refused : (m : FlatModel) (s : State) (c : Cause) → IsRefusedPiece m s (take n left) c → IsRefusedPiece m s piece c
 
 fronted : (held : Option (List ℕ)) (fed : Fed) (n : ℕ) (more : List ℕ) → IsFront held fed n → 1 ≤ n → n ≤ length fed.left → (IfSome held (λ file. length file ≤ fed.place) → more ≡ []) → Fronted n fed.left more
 fronted held fed n more (inl piece) some within ends = record {
+  piece = take n fed.left;
   rest = cut (drop n fed.left ++ more);
   is = ap (λ (x : List ℕ). cut (x ++ more)) (sym (take-append-drop n fed.left)) ∙ ap cut (append_assoc (take n fed.left) (drop n fed.left) more) ∙ cut_piece (take n fed.left) (drop n fed.left ++ more) piece;
+  refused = λ m s c fact. fact;
 }
-fronted held fed n more (inr (all, none, stop)) some within ends =
+fronted held fed n more (inr (all, none, inl stop)) some within ends =
     let whole : take n fed.left ≡ fed.left = take_all n fed.left (omega (arith, all)) in
     record {
+      piece = take n fed.left;
       rest = [];
       is = rw (ends stop, append-nil fed.left, whole) (cut_last fed.left none (omega (arith, all, some)));
+      refused = λ m s c fact. fact;
+    }
+fronted held fed n more (inr (all, none, inr long)) some within ends =
+    let whole : take n fed.left ≡ fed.left = take_all n fed.left (omega (arith, all)) in
+    let begun : Begun fed.left more = cut_begun fed.left more none (omega (arith, all, some)) in
+    record {
+      piece = fed.left ++ begun.front;
+      rest = begun.rest;
+      is = begun.is;
+      refused = λ m s c fact. let fact = rw whole at fact in long_refused m s fed.left begun.front c long fact;
     }
 
 fails_next : (m : FlatModel) (held : Option (List ℕ)) (r : Sight) (at : IsAt m held r) (more : List ℕ) (pieces : List (List ℕ)) (k : ℕ) (c : Cause) → cut (r.fed.left ++ more) ≡ pieces → FailsNext m r.state pieces c → k ≡ r.count + 1 → FailsAt m (at.bytes ++ (r.fed.left ++ more)) k c
@@ -161,7 +191,7 @@ fails_next m held r at more pieces k c is fails number = record {
   fails = fails;
 }
 
--- the piece at the front isn't an allowed line
+-- the first n bytes aren't an allowed line
 pub fails_here : (m : FlatModel) (held : Option (List ℕ)) (r : Sight) (n k : ℕ) (c : Cause) → IsAt m held r → IsFront held r.fed n → 1 ≤ n → n ≤ length r.fed.left → IsRefusedPiece m r.state (take n r.fed.left) c → k ≡ r.count + 1 → OfFile held (λ log. FailsAt m log k c)
 fails_here m held r n k c at front some within refused number =
     let w : Whole held r.fed.place at.bytes r.fed.left = whole_of held r.fed.place at.bytes r.fed.left at.told in
@@ -169,7 +199,7 @@ fails_here m held r n k c at front some within refused number =
     record {
       log = at.bytes ++ (r.fed.left ++ w.more);
       told = w.told;
-      holds = fails_next m held r at w.more (take n r.fed.left ∷ f.rest) k c f.is refused number;
+      holds = fails_next m held r at w.more (f.piece ∷ f.rest) k c f.is (f.refused m r.state c refused) number;
     }
 
 -- ---- the end
@@ -238,7 +268,8 @@ none_left (x ∷ xs) e = absurd (omega (arith, e))
 
 pub at_end : (held : Option (List ℕ)) (fed : Fed) (n : ℕ) → n ≡ 0 → IsFront held fed n → IsAtEnd held fed
 at_end held fed n e (inl piece) = let is = rw e at piece.is in absurd (no_piece piece.body is)
-at_end held fed n e (inr (all, none, ends)) = record { none = none_left fed.left (sym e ∙ all); ends = ends }
+at_end held fed n e (inr (all, none, inl ends)) = record { none = none_left fed.left (sym e ∙ all); ends = ends }
+at_end held fed n e (inr (all, none, inr long)) = absurd (let many = long.0 in omega (arith, e, all, many))
 
 -- fetching doesn't change how many bytes a log may still have
 pub same_unread : (held : Option (List ℕ)) (a b : Fed) (n : ℕ) → Readies held a b n → b.place ≤ 2 ^ 40 → unread b ≡ unread a

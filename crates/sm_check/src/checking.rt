@@ -94,8 +94,8 @@ impl Reading {
     }
 
     #[tactic(auto, using(crate::proofs::Readings::at_ready, crate::proofs::Readings::same_unread))]
-    /// Fetches until a whole line is left at the front, or the file is at its end: how many bytes the line has then, or
-    /// what is left of it has.
+    /// Fetches until a whole line is left at the front, or the file is at its end, or what is left is more than its line may
+    /// have: how many bytes the line has then, or what is left of it has.
     fn ready<F: Shelf>(&mut self, shelf: &mut F, name: &str) -> Result<usize, CheckRefusal>
         requires { self.old.fed.place ≤ 2 ^ 40 }
         ensures at { OnOk result ((m : FlatModel) → IsAt m (F.held shelf.old name.now) self.old → IsAt m (F.held shelf.old name.now) self.new) }

@@ -5,6 +5,7 @@ ghost use Rattle.sm_check.specs.Checks.{IsFeedCause};
 
 use crate::refusal::CheckRefusal;
 use sm_base::Shelf;
+use sm_step::is_too_long;
 use std::alloc::{AllocError, Global};
 use std::marker::Model;
 
@@ -112,9 +113,10 @@ impl Feed {
         Ok(count)
     }
 
-    #[tactic(auto, using(crate::proofs::Feeding::gathers_none, crate::proofs::Feeding::gathers_more, crate::proofs::Feeding::readies_piece, crate::proofs::Feeding::readies_end, crate::proofs::Feeding::fetch_falls, crate::proofs::Feeding::seen_within, crate::proofs::Feeding::seen_none))]
-    /// Fetches until a whole line is left at the front, or the file is at its end: how many bytes the line has then, or
-    /// what is left of it has.
+    #[tactic(auto, using(crate::proofs::Feeding::gathers_none, crate::proofs::Feeding::gathers_more, crate::proofs::Feeding::readies_piece, crate::proofs::Feeding::readies_end, crate::proofs::Feeding::readies_long, crate::proofs::Feeding::fetch_falls, crate::proofs::Feeding::seen_within, crate::proofs::Feeding::seen_none))]
+    /// Fetches until a whole line is left at the front, or the file is at its end, or what is left is more than its line may
+    /// have: how many bytes the line has then, or what is left of it has. So what is held is never much more than a line may
+    /// have, in whatever file.
     pub(crate) fn next_piece<F: Shelf>(
         &mut self,
         shelf: &mut F,
@@ -133,6 +135,9 @@ impl Feed {
                 return Ok(count);
             }
             seen = self.left().len();
+            if is_too_long(self.left()) {
+                return Ok(seen);
+            }
             if self.fetch(shelf, name)? == 0 {
                 return Ok(seen);
             }

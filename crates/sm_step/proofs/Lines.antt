@@ -1,6 +1,6 @@
 -- Each line of the grammar is read from its text.
-use Rattle.std.proofs.Common.{◌≡◌, ◌≤◌, ◌^◌, ◌<◌, ◌↔◌, ℕ, ℤ, pos, Bool, true, false, Option, List, [], ◌∷◌, ◌++◌, length, Some, None, refl, sym, ◌∙◌, ap, subst, arith, append_assoc}
-use Rattle.std.specs.Prelude.{codes, IsTrue, All, nat_lt}
+use Rattle.std.proofs.Common.{◌≡◌, ◌≤◌, ◌^◌, ◌<◌, ℕ, ℤ, pos, Bool, true, false, Option, List, [], ◌∷◌, ◌++◌, length, Some, None, refl, sym, ◌∙◌, ap, subst, arith, append_assoc, length-append}
+use Rattle.std.specs.Prelude.{◌==◌, if◌then◌else◌, codes, All, nat_lt}
 use Rattle.std.proofs.lemmas.Bool.Decides.{nat_tests}
 use Rattle.std.proofs.lemmas.List.Elements.{All-cons, All-nil}
 use Rattle.sm_base.specs.Whole.{whole_text}
@@ -59,6 +59,21 @@ pub too_long : (l : Line) (bytes : List ℕ) → IsLine l → bytes ≡ text_of 
 unfolding IsLine text_of
 too_long (line.Norange program basis op left right) bytes is e long other = let same = ap (rest_behind (codes "norange ")) (sym e) ∙ other in absurd (cc)
 too_long l bytes is e long other = omega (arith, is.1, ap length e, long)
+
+still_none : (p bytes more : List ℕ) → length p ≤ length bytes → rest_behind p bytes ≡ None → rest_behind p (bytes ++ more) ≡ None
+still_none [] bytes more within none = absurd (cc)
+still_none (c ∷ cs) [] more within none = absurd (omega (arith, within))
+still_none (c ∷ cs) (b ∷ bs) more within none = pick (c == b) (still_none cs bs more (omega (arith, within))) none
+  where
+    pick : (t : Bool) → (rest_behind cs bs ≡ None → rest_behind cs (bs ++ more) ≡ None) → (if t then rest_behind cs bs else None) ≡ None → (if t then rest_behind cs (bs ++ more) else None) ≡ None
+    pick true further k = further k
+    pick false further k = refl
+
+-- no line begins with bytes that are too many
+pub begins_none : (bytes : List ℕ) → 2 ^ 24 < length bytes → rest_behind (codes "norange ") bytes ≡ None → (l : Line) (more : List ℕ) → IsLine l → bytes ++ more ≡ text_of l → ⊥
+begins_none bytes long other l more is e =
+    let sum = length-append bytes more in
+    too_long l (bytes ++ more) is e (omega (arith, long, sum)) (still_none (codes "norange ") bytes more (omega (arith, long)) other)
 
 short : (bytes : List ℕ) (l : Line) → bytes ≡ text_of l → (2 ^ 24 < length bytes → rest_behind (codes "norange ") bytes ≡ None → ⊥) → IsShort l
 unfolding text_of

@@ -25,7 +25,7 @@ mod verdict_text;
 
 pub use fraction::push_fraction;
 pub use line::{Line, Listed, NorangeOf, Outcome, Pattern};
-pub use reading::{one_line, read};
+pub use reading::{is_too_long, one_line, read};
 pub use refusal::LineRefusal;
 pub use row::{Col, RowRef, Term};
 pub use rule::Rule;

@@ -1,5 +1,5 @@
 //! Reading a line.
-ghost use Rattle.std.specs.Prelude.{◌≡◌, ◌<◌, ◌^◌, length, codes, Some, None, Ok, Err, true, false, IsOk, IfOk, IfErr, IfSome, IfNone};
+ghost use Rattle.std.specs.Prelude.{◌≡◌, ◌<◌, ◌^◌, ◌++◌, ℕ, List, length, codes, Some, None, Ok, Err, true, false, IsOk, IfOk, IfErr, IfSome, IfNone};
 ghost use Rattle.sm_step.specs.declared.line.Line.{Line as Step};
 ghost use Rattle.sm_step.specs.declared.refusal.LineRefusal.TheVariants.{BadLine};
 ghost use Rattle.sm_step.specs.Text.{text_of};
@@ -55,9 +55,10 @@ fn unless<T: Drop>(value: T, refusal: Option<LineRefusal>) -> Result<T, LineRefu
 }
 
 /// Whether bytes are too many for a line that begins as they do.
-fn is_too_long(bytes: &[u8]) -> bool
+pub fn is_too_long(bytes: &[u8]) -> bool
     ensures yes { result ≡ true → (2 ^ 24 < length bytes.now) × (rest_behind (codes "norange ") bytes.now ≡ None) }
     ensures no { result ≡ false → 2 ^ 24 < length bytes.now → rest_behind (codes "norange ") bytes.now ≡ None → ⊥ }
+    ensures begins { result ≡ true → (l : Step) (more : List ℕ) → IsLine l → bytes.now ++ more ≡ text_of l → ⊥ }
 {
     bytes.len() > LENGTHS && !Cursor::new(bytes).accept(b"norange ")
 }

@@ -5,13 +5,13 @@ use Rattle.std.proofs.lemmas.Bool.Decides.{nat_tests}
 use Rattle.std.proofs.lemmas.List.{length-set}
 use Rattle.std.proofs.lemmas.List.Elements.{All-nil, All-cons, All-head, All-tail}
 use Rattle.sm_kinds.specs.declared.literal.Literal.{Literal}
-use Rattle.sm_store.specs.Stores.{Extent, extent_at, narrowed, narrow}
+use Rattle.sm_store.specs.Stores.{Extent, extent_at, narrowed, narrow, narrow_all}
 use Rattle.sm_rules.specs.declared.node.Status.{Status}
 use Rattle.sm_rules.specs.declared.node.Status.TheVariants.{Open}
 use Rattle.sm_rules.specs.Nodes.{NodeView, KeptNode, no_node, is_split}
 use Rattle.sm_rules.specs.Trees.{node_at, set_node, without_node, has_no_child, is_done, pruned}
 use Rattle.sm_rules.specs.Places.{AreRising, IsPlace, at_place}
-use Rattle.sm_rules.specs.KeptNodes.{narrow_all, node_of, with_store, nodes_of, IsNotUnder}
+use Rattle.sm_rules.specs.KeptNodes.{node_of, with_store, nodes_of, IsNotUnder}
 use Rattle.sm_rules.proofs.Levels.{both_true}
 use Rattle.sm_rules.proofs.NodeLists.{pairs_head, pairs_tail}
 use Rattle.sm_rules.proofs.Places.{same_number, other_number, rising_head, rising_tail}

@@ -24,7 +24,7 @@ use Rattle.sm_flat.specs.Solutions.{Fits}
 use Rattle.sm_rules.specs.Floors.{Level, Reaches, EndsNode, AreFloors, CostLess, IsWholeNumber, FitsLevel, FitLevels}
 use Rattle.sm_rules.specs.Objectives.{costs_by, is_discrete, is_whole, level_of}
 use Rattle.sm_rules.proofs.Integers.{mul-neg}
-use Rattle.sm_rules.proofs.LeastCosts.{one_of_at}
+use Rattle.sm_store.proofs.Ends.{one_of_at}
 
 -- ---- cross products and rational numbers
 

@@ -4,10 +4,10 @@ use Rattle.std.specs.Prelude.{All, IfSome, IfNone}
 use Rattle.std.proofs.lemmas.List.Elements.{All-push}
 use lib.ListN.{length-take}
 use lib.Seq.{get_or-take, take-suc}
-use Rattle.sm_store.specs.Stores.{Extent}
+use Rattle.sm_store.specs.Stores.{Extent, narrow_all}
 use Rattle.sm_rules.specs.Nodes.{NodeView, KeptNode}
 use Rattle.sm_rules.specs.Places.{AreRising, IsPlace, at_place}
-use Rattle.sm_rules.specs.KeptNodes.{narrow_all, node_of, with_store, nodes_of, nodes_over, narrow_along}
+use Rattle.sm_rules.specs.KeptNodes.{node_of, with_store, nodes_of, nodes_over, narrow_along}
 use Rattle.sm_rules.proofs.KeptNodes.{stores_of, stores_other, stores_found}
 
 -- a node's store is that of its parent's number among the nodes before it, narrowed by the node's literals

@@ -2,18 +2,13 @@
 use Rattle.std.specs.Prelude.{◌≡◌, ◌≢◌, ℕ, ◌<◌, ◌≤◌, ◌^◌, List, [], ◌∷◌, ◌++◌, length, ◌==◌, All, AllPairs, Option, Some, None, slice_set, unsigned_abs, if◌then◌else◌}
 use Rattle.sm_kinds.specs.declared.literal.Literal.{Literal}
 use Rattle.sm_flat.specs.Models.{FlatModel}
-use Rattle.sm_store.specs.Stores.{Extent, narrow}
+use Rattle.sm_store.specs.Stores.{Extent, narrow_all}
 use Rattle.sm_rules.specs.declared.node.Status.{Status}
 use Rattle.sm_rules.specs.declared.node.Status.TheVariants.{Open, Half, Split}
 use Rattle.sm_rules.specs.Floors.{raised}
 use Rattle.sm_rules.specs.Objectives.{least_costs}
 use Rattle.sm_rules.specs.Nodes.{NodeOf, NodeView, KeptNode, with_child}
 use Rattle.sm_rules.specs.Places.{AreRising, at_place}
-
--- the store narrowed by the literals, one after the other
-abbrev pub narrow_all : List Extent → List Literal → List Extent
-narrow_all store [] = store
-narrow_all store (l ∷ ls) = narrow_all (narrow store l) ls
 
 -- the node, where these are the stores of the nodes before it
 abbrev pub node_of : (ℕ → List Extent) → KeptNode → NodeView

@@ -1,9 +1,9 @@
 //! Stores made anew from the declared one and the literals above a node.
 ghost use Rattle.std.specs.Prelude.{◌≡◌, ◌<◌, List, All, IfOk, IfSome, length};
-ghost use Rattle.sm_store.specs.Stores.{Extent};
+ghost use Rattle.sm_store.specs.Stores.{Extent, narrow_all};
 ghost use Rattle.sm_rules.specs.Nodes.{KeptNode};
 ghost use Rattle.sm_rules.specs.Places.{AreRising, at_place};
-ghost use Rattle.sm_rules.specs.KeptNodes.{AreKnown, IsNodeKnown, IsHeld, narrow_all, narrow_along, nodes_over, store_or};
+ghost use Rattle.sm_rules.specs.KeptNodes.{AreKnown, IsNodeKnown, IsHeld, narrow_along, nodes_over, store_or};
 
 use crate::node::Node;
 use crate::tree::place_of;

@@ -13,7 +13,8 @@ use Rattle.sm_store.proofs.Listed.{listed_filter}
 use Rattle.sm_store.proofs.WordPlaces.{one_true, true_one, one_value as one_place}
 use borrow.Rule.Slice.PartMut.{put_mid}
 use Rattle.sm_store.specs.declared.summary.Summary.{Summary}
-use Rattle.sm_store.specs.Stores.{AreWordsOf, IsOrdered, range, fixed_value, size_in}
+use Rattle.sm_store.specs.Stores.{AreWordsOf, IsOrdered, range, kept, fixed_value, size_in}
+use Rattle.sm_store.proofs.Orders.{ordered_kept}
 use Rattle.sm_store.specs.Blocks.{is_one, listed, values_of, summary_in, AreCells, IsSummary, IsPart, KeepsPassing, extent_in}
 
 -- ---- what the cells say
@@ -89,6 +90,17 @@ small_ends kind (v ∷ vs) s ordered summary =
       least = rw ends.least at (ordered.small 0 (pos 0) (omega arith));
       greatest = rw ends.greatest at (ordered.small (length (v ∷ vs) - 1) (pos 0) (omega arith));
     }
+
+-- the ends of what a literal leaves are small
+pub small_left : (kind : VarKind) (l : Literal) (vs : List ℤ) (s : Summary) → IsOrdered kind vs → IsSummary kind (kept kind l vs) s → AreSmall s
+small_left kind l vs s ordered is = small_ends kind (kept kind l vs) s (ordered_kept kind l vs ordered) is
+
+-- and so are those of what a literal leaves of a set's part
+pub least_passing : (l : Literal) (base : ℤ) (part : List ℕ) (s : Summary) → IsPart Set base part → IsSummary Set (filter (passes l) (values_of base (drop 3 part))) s → unsigned_abs s.least ≤ 2 ^ 31
+least_passing l base part s is left = (small_left Set l (values_of base (drop 3 part)) s is.ordered left).least
+
+pub greatest_passing : (l : Literal) (base : ℤ) (part : List ℕ) (s : Summary) → IsPart Set base part → IsSummary Set (filter (passes l) (values_of base (drop 3 part))) s → unsigned_abs s.greatest ≤ 2 ^ 31
+greatest_passing l base part s is left = (small_left Set l (values_of base (drop 3 part)) s is.ordered left).greatest
 
 -- a part whose cells are those of its words
 pub set_part : (base : ℤ) (old new : List ℕ) (s : Summary) → AreCells new → summary_in new ≡ s → drop 3 new ≡ drop 3 old → length new ≤ 68 → unsigned_abs base ≤ 2 ^ 32 → IsOrdered Set (values_of base (drop 3 old)) → IsSummary Set (values_of base (drop 3 old)) s → IsPart Set base new

@@ -4,6 +4,7 @@ pub mod Orders
 pub mod Narrowing
 pub mod Parts
 pub mod Exactness
+pub mod Ends
 pub mod Listed
 pub mod Masks
 pub mod WordPlaces

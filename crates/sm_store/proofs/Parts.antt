@@ -1,6 +1,6 @@
 -- The stores of a model: the declared one, and what narrowing makes of one.
 use Rattle.std.proofs.Common.{◌≡◌, ℕ, zero, suc, ◌<◌, Bool, true, false, cond, List, [], ◌∷◌, length, get_or, refl, arith, ◌∙◌, inl, inr, get_or-set_same, get_or-set_other}
-use Rattle.std.specs.Prelude.{ℤ, pos, ◌≤ℤ◌, int_le, All}
+use Rattle.std.specs.Prelude.{◌≢◌, ◌≤◌, ◌^◌, ◌↔◌, ℤ, pos, ◌≤ℤ◌, int_le, All, IsTrue, unsigned_abs}
 use Rattle.std.proofs.lemmas.Bool.{cases_eq}
 use Rattle.std.proofs.lemmas.Int.{ints}
 use Rattle.std.proofs.lemmas.List.{length-set, length-map}
@@ -17,7 +17,7 @@ use Rattle.sm_flat.specs.Models.{FlatModel}
 use Rattle.sm_kinds.specs.Vars.{IsOneOf, IsBetween, IsMultiple, IsRange, LiesIn, var_at, no_var}
 use Rattle.sm_kinds.specs.Points.{Point}
 use Rattle.sm_flat.specs.Solutions.{Fits}
-use Rattle.sm_store.specs.Stores.{Extent, no_extent, extent_at, base_of, extent_of, declared, In, range, kept_range, kept, narrowed, narrow, IsPartOf, IsStoreOf}
+use Rattle.sm_store.specs.Stores.{Extent, no_extent, extent_at, base_of, extent_of, declared, In, range, kept_range, kept, narrowed, narrow, Tightens, IsPartOf, IsStoreOf}
 use Rattle.sm_store.proofs.Ranges.{all_none, all_two, cut_is}
 use Rattle.sm_store.proofs.Orders.{ordered_kept, domain_ordered}
 
@@ -116,3 +116,7 @@ store_declared m flat = record {
 
 pub in_declared : (m : FlatModel) (a : Point) → Fits m a → In a (declared m.vars)
 in_declared m a fits i lt = rw (extent_declared m.vars i) (fits.lies i (omega (arith, length-map m.vars extent_of)))
+
+-- a known literal with a small bound tightens a store where it changes the domain
+pub tightens_where : (store : List Extent) (l : Literal) (r : Bool) → l.var < length store → unsigned_abs l.bound ≤ 2 ^ 32 → IsTrue r ↔ ((narrowed l (extent_at store l.var)).values ≢ (extent_at store l.var).values) → IsTrue r ↔ Tightens store l
+tightens_where store l r lt small h = (λ yes. record { known = lt; bounded = small; changes = h.0 yes }, λ t. h.1 t.changes)

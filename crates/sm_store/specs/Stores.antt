@@ -92,6 +92,23 @@ pub record Narrows (store : List Extent) (l : Literal) : Type 0 where
   pub leaves : 0 < length (narrowed l (extent_at store l.var)).values
   pub changes : (narrowed l (extent_at store l.var)).values ≢ (extent_at store l.var).values
 
+-- the literal is of a variable of the store, has a bound within 2^32, and makes the variable's domain another one, which a real
+-- variable's never becomes
+pub record Tightens (store : List Extent) (l : Literal) : Type 0 where
+  pub known : l.var < length store
+  pub bounded : unsigned_abs l.bound ≤ 2 ^ 32
+  pub changes : (narrowed l (extent_at store l.var)).values ≢ (extent_at store l.var).values
+
+-- each literal changes the store in its turn
+abbrev pub TightensEach : List Extent → List Literal → Type 0
+TightensEach store [] = Unit {0}
+TightensEach store (l ∷ ls) = Tightens store l × TightensEach (narrow store l) ls
+
+-- the store narrowed by the literals, one after the other
+abbrev pub narrow_all : List Extent → List Literal → List Extent
+narrow_all store [] = store
+narrow_all store (l ∷ ls) = narrow_all (narrow store l) ls
+
 abbrev pub is_empty : List ℤ → Bool
 is_empty [] = true
 is_empty (v ∷ vs) = false

@@ -2,10 +2,11 @@
 ghost use Rattle.std.specs.Prelude.{◌≡◌, ◌≢◌, ◌<◌, ◌≤◌, ◌^◌, ◌↔◌, pos, length, unsigned_abs, [], IsTrue, IsSome, IfSome};
 ghost use Rattle.sm_kinds.specs.Vars.{LiesIn};
 ghost use Rattle.sm_kinds.specs.declared.var.VarKind.TheVariants.{Set as Listed};
-ghost use Rattle.sm_store.specs.Stores.{AreWordsOf, kept, truth_in, least_of, greatest_of, size_in, fixed_value};
+ghost use Rattle.sm_store.specs.Stores.{AreWordsOf, kept, narrowed, truth_in, least_of, greatest_of, size_in, fixed_value};
+ghost use Rattle.sm_store.specs.Blocks.{IsSummary};
 
 use crate::place::Place;
-use crate::summary::summary_in;
+use crate::summary::{Summary, summary_in};
 use crate::{range, set, words};
 use sm_flat::{Literal, VarKind};
 use std::marker::Model;
@@ -130,6 +131,36 @@ impl<'a> Domain<'a> {
             VarKind::Set => set::changes(literal, &self.base, self.part),
             VarKind::Int => range::changes(literal, summary.least, summary.greatest),
             VarKind::Real => false,
+        }
+    }
+
+    /// What the cells would say of the values that the literal leaves.
+    #[tactic(auto, using(crate::proofs::Cells::small_left))]
+    fn summary_left(&self, literal: &Literal) -> Summary
+        ensures summary { IsSummary self.now.kind (kept self.now.kind literal.now self.now.values) result }
+        ensures least { unsigned_abs result.least ≤ 2 ^ 31 }
+        ensures greatest { unsigned_abs result.greatest ≤ 2 ^ 31 }
+    {
+        let summary = summary_in(self.part);
+        match self.kind {
+            VarKind::Set => set::summary_left(literal, &self.base, self.part),
+            VarKind::Int => range::kept(literal, summary.least, summary.greatest),
+            VarKind::Real => summary,
+        }
+    }
+
+    /// The least and the greatest value that the literal leaves, where it leaves one.
+    #[tactic(auto, using(crate::proofs::Cells::not_crossing, crate::proofs::Cells::crossing))]
+    pub(crate) fn ends_left(&self, literal: &Literal) -> Option<(i64, i64)>
+        ensures variant { IsSome result ↔ (0 < length (kept self.now.kind literal.now self.now.values)) }
+        ensures value { IfSome result (λ b. (b.0 ≡ least_of (narrowed literal.now self.now)) × (b.1 ≡ greatest_of (narrowed literal.now self.now))) }
+        ensures small { IfSome result (λ b. (unsigned_abs b.0 ≤ 2 ^ 31) × (unsigned_abs b.1 ≤ 2 ^ 31)) }
+    {
+        let summary = self.summary_left(literal);
+        if summary.least <= summary.greatest {
+            Some((summary.least, summary.greatest))
+        } else {
+            None
         }
     }
 

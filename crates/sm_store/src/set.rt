@@ -3,10 +3,10 @@ ghost use Rattle.std.specs.Prelude.{◌≡◌, ◌≢◌, ◌<◌, ◌≤◌, �
 ghost use Rattle.sm_kinds.specs.Literals.{passes};
 ghost use Rattle.sm_kinds.specs.declared.var.VarKind.TheVariants.{Set as Listed};
 ghost use Rattle.sm_store.specs.Stores.{IsOrdered, truth_in};
-ghost use Rattle.sm_store.specs.Blocks.{values_of, IsPart, KeepsPassing};
+ghost use Rattle.sm_store.specs.Blocks.{values_of, IsPart, IsSummary, KeepsPassing};
 
-use crate::summary::{CELLS, summary_in, write_cells};
-use crate::words::{has, keep, leaves_some, summary_of, takes_some};
+use crate::summary::{CELLS, Summary, summary_in, write_cells};
+use crate::words::{MOST_WORDS, has, keep, leaves_some, summary_of, takes_some};
 use sm_flat::Literal;
 
 /// The words of a part.
@@ -70,6 +70,30 @@ pub(crate) fn truth(literal: &Literal, base: &i64, part: &[u64]) -> Option<bool>
         return Some(false);
     }
     None
+}
+
+/// The ends of the values of which the literal is true, and how many there are.
+#[tactic(auto, using(crate::proofs::Cells::kept_values))]
+fn summary_passing(literal: &Literal, base: &i64, part: &[u64]) -> Summary
+    requires { IsPart Listed base.now part.now }
+    ensures { IsSummary Listed (filter (passes literal.now) (values_of base.now (drop 3 part.now))) result }
+{
+    let words = words_in(part);
+    let mut room = [0u64; MOST_WORDS];
+    let left = &mut room[..words.len()];
+    left.copy_from_slice(words);
+    keep(left, base, literal);
+    summary_of(left, base)
+}
+
+/// What the cells of a part would say of the values of which the literal is true.
+pub(crate) fn summary_left(literal: &Literal, base: &i64, part: &[u64]) -> Summary
+    requires { IsPart Listed base.now part.now }
+    ensures summary { IsSummary Listed (filter (passes literal.now) (values_of base.now (drop 3 part.now))) result }
+    ensures least { unsigned_abs result.least ≤ 2 ^ 31 }
+    ensures greatest { unsigned_abs result.greatest ≤ 2 ^ 31 }
+{
+    summary_passing(literal, base, part)
 }
 
 /// Keeps the values of which the literal is true, in the words alone.

@@ -2,7 +2,7 @@
 ghost use Rattle.std.specs.Prelude.{◌≡◌, ◌<◌, ◌≤◌, ◌≤ℤ◌, ◌^◌, ◌↔◌, [], pos, is_some, Any, length, unsigned_abs, IsTrue, IsSome, IfOk, IfSome};
 ghost use Rattle.sm_kinds.specs.Vars.{LiesIn};
 ghost use Rattle.sm_kinds.specs.declared.var.VarKind.TheVariants.{Set as Listed};
-ghost use Rattle.sm_store.specs.Stores.{AreWordsOf, declared, narrow, extent_at, least_of, greatest_of, fixed_value, fixed_at, fixed_point, size_in, truth_of, Narrows, Changes};
+ghost use Rattle.sm_store.specs.Stores.{AreWordsOf, declared, narrow, extent_at, least_of, greatest_of, fixed_value, fixed_at, fixed_point, size_in, truth_of, narrowed, Narrows, Tightens, Changes};
 
 use crate::build::declared_block;
 use crate::domain::Domain;
@@ -103,6 +103,30 @@ impl Store {
         }
         let domain = self.domain(literal.var);
         domain.leaves(literal) && domain.changes(literal)
+    }
+
+    /// Whether the literal is of a variable of the store, has a bound within 2^32, and makes the variable's domain another one.
+    #[tactic(auto, using(crate::proofs::Parts::tightens_where))]
+    pub fn tightens(&self, literal: &Literal) -> bool
+        ensures { IsTrue result ↔ Tightens self.now literal.now }
+    {
+        if literal.bound.unsigned_abs() > 1 << 32 {
+            return false;
+        }
+        if literal.var as usize >= self.len() {
+            return false;
+        }
+        self.domain(literal.var).changes(literal)
+    }
+
+    /// The least and the greatest value of the literal's variable that the literal leaves; none exactly where it leaves none.
+    pub fn ends_left(&self, literal: &Literal) -> Option<(i64, i64)>
+        requires { literal.now.var < length self.now }
+        ensures variant { IsSome result ↔ (0 < length (narrowed literal.now (extent_at self.now literal.now.var)).values) }
+        ensures value { IfSome result (λ b. (b.0 ≡ least_of (narrowed literal.now (extent_at self.now literal.now.var))) × (b.1 ≡ greatest_of (narrowed literal.now (extent_at self.now literal.now.var)))) }
+        ensures small { IfSome result (λ b. (unsigned_abs b.0 ≤ 2 ^ 31) × (unsigned_abs b.1 ≤ 2 ^ 31)) }
+    {
+        self.domain(literal.var).ends_left(literal)
     }
 
     /// Whether some variable has no value left.

@@ -14,6 +14,9 @@ use sm_lanes::{count_ones, first_one, last_one};
 /// How many places a word has.
 pub(crate) const PLACES: usize = 64;
 
+/// How many words a set has at most, since its numbers are at most 4,096 wide.
+pub(crate) const MOST_WORDS: usize = 65;
+
 /// A number beyond all values of words.
 const FAR: i64 = 1 << 34;
 

@@ -1,6 +1,6 @@
 use Rattle.std.proofs.Common.{◌≡◌, length, drop}
-use Rattle.sm_rules.specs.KeptNodes.{narrow_all}
 use Rattle.sm_rules.proofs.path.narrow_by.Given as goal
+use Rattle.sm_store.specs.Stores.{narrow_all}
 
 abbrev pub invariant-loop-literal : goal.invariant-loop-literal
 invariant-loop-literal l = record {

@@ -1,10 +1,10 @@
 use Rattle.std.proofs.Common.{◌≡◌, ℕ, suc, ◌-◌, ◌<◌, length, take, get_or, ap, sym, ◌∙◌, arith}
 use Rattle.sm_kinds.specs.declared.literal.Literal.{Literal}
 use Rattle.std.specs.Prelude.{List}
-use Rattle.sm_store.specs.Stores.{Extent}
+use Rattle.sm_store.specs.Stores.{Extent, narrow_all}
 use Rattle.sm_rules.specs.Nodes.{KeptNode}
 use Rattle.sm_rules.specs.Places.{at_place}
-use Rattle.sm_rules.specs.KeptNodes.{narrow_all, narrow_along}
+use Rattle.sm_rules.specs.KeptNodes.{narrow_along}
 use Rattle.sm_rules.proofs.Places.{at_read}
 use Rattle.sm_rules.proofs.KeptNodes.{width_all}
 use Rattle.sm_rules.proofs.Paths.{step_down}

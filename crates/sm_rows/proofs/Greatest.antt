@@ -12,14 +12,11 @@ use Rattle.sm_kinds.specs.Linear.{SatLinear}
 use Rattle.sm_kinds.specs.Points.{Point}
 use Rattle.sm_kinds.specs.Sums.{sum_at}
 use Rattle.sm_kinds.proofs.Multiples.{*ℤ_assoc, +ℤ-*ℤ}
-use Rattle.sm_store.specs.Stores.{Extent, extent_at, In, IsOrdered, least_of, greatest_of}
+use Rattle.sm_store.specs.Stores.{Extent, extent_at, In, least_of, greatest_of}
 use Rattle.sm_store.proofs.Ends.{IsBetween, between}
 use Rattle.sm_store.proofs.Ranges.{times_mono}
+use Rattle.sm_rows.specs.Whole.{AreOrdered}
 use Rattle.sm_rows.specs.Halves.{Bounded, negated, side_of, half_of, is_first_turned, second_turned, HalfHolds, greatest_term, greatest_sum, FallsShort, IsTooLittle}
-
--- a store's domains are ordered
-abbrev pub AreOrdered : List Extent → Type 0
-AreOrdered store = (i : ℕ) → i < length store → IsOrdered (extent_at store i).kind (extent_at store i).values
 
 neg_times : (c n : ℤ) → neg_ℤ c *ℤ n ≡ neg_ℤ (c *ℤ n)
 neg_times c n = omega (arith, ints, sym (+ℤ-*ℤ c (neg_ℤ c) n), ap (λ (z : ℤ). z *ℤ n) (cancels c), zero_left n)
@@ -32,12 +29,12 @@ neg_times c n = omega (arith, ints, sym (+ℤ-*ℤ c (neg_ℤ c) n), ap (λ (z :
 
 -- ---- one term
 
-mono : (c x y : ℤ) → pos 0 ≤ℤ c → x ≤ℤ y → (c *ℤ x) ≤ℤ (c *ℤ y)
+pub mono : (c x y : ℤ) → pos 0 ≤ℤ c → x ≤ℤ y → (c *ℤ x) ≤ℤ (c *ℤ y)
 mono (pos zero) x y p h = rw (*ℤ_comm (pos 0) x, *ℤ_comm (pos 0) y, *ℤ-zero x, *ℤ-zero y) (omega (arith, ints))
 mono (pos (suc n)) x y p h = rw (*ℤ_comm (pos (suc n)) x, *ℤ_comm (pos (suc n)) y) (times_mono x y (pos (suc n)) (omega (arith, ints)) h)
 mono (negsuc n) x y p h = absurd (omega (arith, ints))
 
-anti : (c x y : ℤ) → c <ℤ pos 0 → x ≤ℤ y → (c *ℤ y) ≤ℤ (c *ℤ x)
+pub anti : (c x y : ℤ) → c <ℤ pos 0 → x ≤ℤ y → (c *ℤ y) ≤ℤ (c *ℤ x)
 anti c x y p h =
     let le = mono (neg_ℤ c) x y (omega (arith, ints)) h in
     omega (arith, ints, le, neg_times c x, neg_times c y)

@@ -1,7 +1,7 @@
 -- What a rule concludes of a store is so of each of its assignments that satisfies the constraint: each literal is true, and where
 -- it closes there is none.
-use Rattle.std.proofs.Common.{◌≡◌, ℕ, ◌<◌, ◌⊎◌, zero, suc, Bool, true, false, cond, List, [], ◌∷◌, length, get_or, refl, arith, sym, subst, ◌∙◌, inl, inr, get_or-set_same, get_or-set_other}
-use Rattle.std.specs.Prelude.{ℤ, pos, ◌*ℤ◌, ◌<ℤ◌, ◌≢◌, ◌||◌, ◌&&◌, All, Option, Some, None, slice_get, MatchOption}
+use Rattle.std.proofs.Common.{◌≡◌, ℕ, ◌≤◌, ◌^◌, ◌<◌, ◌⊎◌, zero, suc, Bool, true, false, cond, List, [], ◌∷◌, length, get_or, refl, arith, sym, subst, ◌∙◌, inl, inr, get_or-set_same, get_or-set_other}
+use Rattle.std.specs.Prelude.{ℤ, pos, ◌*ℤ◌, ◌<ℤ◌, ◌≢◌, unsigned_abs, ◌||◌, ◌&&◌, All, Option, Some, None, slice_get, MatchOption}
 use Rattle.std.proofs.lemmas.Int.{ints}
 use Rattle.std.proofs.lemmas.Bool.{cases_eq, cases_lt}
 use Rattle.std.proofs.lemmas.List.{length-set, set_past}
@@ -33,7 +33,8 @@ use Rattle.sm_step.specs.declared.rule.Rule.TheVariants as rule
 use Rattle.sm_step.specs.declared.line.Outcome.TheVariants.{Close, Literals}
 use Rattle.sm_rows.specs.Halves.{Bounded, half_of, HalfHolds, FallsShort, IsTooLittle}
 use Rattle.sm_rows.specs.Inferences.{CutsOnly, IsTrueIn, IsFalseIn, SumCuts, AllFalse, IsLastOf, AllTrue, WhenCuts, Closes, Infers, Concludes, IsInference, constraint_of}
-use Rattle.sm_rows.proofs.Greatest.{AreOrdered, none_short, none_little, HasHalf, half_in}
+use Rattle.sm_rows.specs.Whole.{AreOrdered, IsWholeVar, AreNear}
+use Rattle.sm_rows.proofs.Greatest.{none_short, none_little, HasHalf, half_in}
 
 -- ---- a value is whole
 
@@ -290,21 +291,22 @@ kind_narrow store l i = elim (cases_eq i l.var) [
 ]
 
 -- the variables of literals that change the store in their turn
-pub record IsWholeVar (store : List Extent) (l : Literal) : Type 0 where
-  pub known : l.var < length store
-  pub discrete : (extent_at store l.var).kind ≢ Real
-
-whole_vars : (store : List Extent) (ls : List Literal) → TightensEach store ls → All (IsWholeVar store) ls
+pub whole_vars : (store : List Extent) (ls : List Literal) → TightensEach store ls → All (IsWholeVar store) ls
 whole_vars store [] each = All-nil (IsWholeVar store)
 whole_vars store (l ∷ ls) each =
     let here : IsWholeVar store l = record { known = each.0.known; discrete = λ real. each.0.changes (real_stays l (extent_at store l.var) real) } in
     let rest = whole_vars (narrow store l) ls each.1 in
     All-cons (IsWholeVar store) l ls here (All-weaker (IsWholeVar (narrow store l)) (IsWholeVar store) (λ k is. record { known = omega (arith, is.known, length-set store l.var (narrowed l (extent_at store l.var))); discrete = λ real. is.discrete (kind_narrow store l k.var ∙ real) }) ls rest)
 
+-- and their bounds are small
+pub near_each : (store : List Extent) (ls : List Literal) → TightensEach store ls → AreNear ls
+near_each store [] each = All-nil (λ (l : Literal). unsigned_abs l.bound ≤ 2 ^ 32)
+near_each store (l ∷ ls) each = All-cons (λ (l : Literal). unsigned_abs l.bound ≤ 2 ^ 32) l ls each.0.bounded (near_each (narrow store l) ls each.1)
+
 -- ---- an inference of a model
 
 -- what is so of all is so of the one at a place
-at_place : {X : Type 0} (P : X → Type 0) (xs : List X) (k : ℕ) (x : X) → All P xs → slice_get xs k ≡ Some x → P x
+pub at_place : {X : Type 0} (P : X → Type 0) (xs : List X) (k : ℕ) (x : X) → All P xs → slice_get xs k ≡ Some x → P x
 at_place P [] k x each e = absurd (cc)
 at_place P (y ∷ ys) zero x each e = subst P (same y x e) (All-head P y ys each)
   where

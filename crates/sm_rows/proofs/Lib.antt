@@ -1,2 +1,3 @@
 pub mod Greatest
 pub mod Inferring
+pub mod Fitting

@@ -1,6 +1,6 @@
 -- What each rule of inference may conclude of a store: that no assignment of it satisfies the constraint, or that a literal is
 -- true of all that do.
-use Rattle.std.specs.Prelude.{◌≡◌, ℕ, ◌<◌, ◌⊎◌, List, length, ℤ, pos, All, Any, true, false, Some, slice_get, MatchOption}
+use Rattle.std.specs.Prelude.{◌≡◌, ℕ, ◌<◌, ◌⊎◌, List, [], ◌∷◌, length, ℤ, pos, All, Any, true, false, Some, slice_get, MatchOption}
 use Rattle.sm_kinds.specs.declared.literal.Literal.{Literal}
 use Rattle.sm_kinds.specs.declared.logic.Clause.{Clause}
 use Rattle.sm_kinds.specs.Literals.{passes, complement}
@@ -9,7 +9,7 @@ use Rattle.sm_flat.specs.declared.form.Constraint.{Constraint}
 use Rattle.sm_flat.specs.declared.form.Form.{Form}
 use Rattle.sm_flat.specs.declared.form.Form.TheVariants as form
 use Rattle.sm_flat.specs.Models.{FlatModel}
-use Rattle.sm_store.specs.Stores.{Extent, extent_at, truth_of, TightensEach}
+use Rattle.sm_store.specs.Stores.{Extent, extent_at, truth_of, Tightens, TightensEach}
 use Rattle.sm_step.specs.declared.rule.Rule.{Rule}
 use Rattle.sm_step.specs.declared.rule.Rule.TheVariants as rule
 use Rattle.sm_step.specs.declared.line.Line.{Line}
@@ -134,3 +134,17 @@ IsInference m store r outcome = MatchOption (slice_get m.constraints (constraint
 abbrev pub IsLawfulInference : FlatModel → List Extent → Line → Type 0
 IsLawfulInference m store (line.Infer r outcome) = IsInference m store r outcome
 IsLawfulInference m store _ = ⊥
+
+-- ---- lemmas
+
+-- what a lemma of this clause may conclude: all literals are false; or one literal, the last that may be true
+abbrev pub LemmaConcludes : List Extent → List Literal → Outcome → Type 0
+LemmaConcludes store ls Close = AllFalse store ls
+LemmaConcludes store ls (Literals []) = ⊥
+LemmaConcludes store ls (Literals (l ∷ [])) = IsLastOf store l ls × Tightens store l
+LemmaConcludes store ls (Literals (l ∷ k ∷ rest)) = ⊥
+
+-- the line uses a lemma of this clause, and is lawful at a node of this store
+abbrev pub IsLawfulLemma : List Extent → List Literal → Line → Type 0
+IsLawfulLemma store ls (line.Lemma lemma outcome) = LemmaConcludes store ls outcome
+IsLawfulLemma store ls _ = ⊥

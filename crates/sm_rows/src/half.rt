@@ -98,6 +98,17 @@ impl<'a> Half<'a> {
         turn(self.row.terms.as_slice()[place].1, self.turned)
     }
 
+    /// The coefficient at a place times a value of its variable.
+    pub fn product(&self, place: usize, value: i64) -> i128
+        requires within { place < length self.now.terms }
+        requires gentle { IsGentle self.now }
+        requires small { unsigned_abs value ≤ 2 ^ 31 }
+        ensures value { result ≡ (slice_index_or self.now.terms place (0, pos 0)).1 *ℤ value }
+        ensures bound { unsigned_abs result ≤ 2 ^ 62 }
+    {
+        product(self.coefficient(place), value)
+    }
+
     /// What the sum is to be at least.
     pub fn bound(&self) -> i128
         ensures { result ≡ self.now.bound }

@@ -66,7 +66,7 @@ whole_in Int vs n d p discrete h = record {
 }
 whole_in Real vs n d p discrete h = absurd (discrete refl)
 
-lies_none : (kind : VarKind) (vs : List ℤ) (n d : ℤ) → is_empty vs ≡ true → LiesIn kind vs n d → ⊥
+pub lies_none : (kind : VarKind) (vs : List ℤ) (n d : ℤ) → is_empty vs ≡ true → LiesIn kind vs n d → ⊥
 lies_none Set [] n d e h = absurd h
 lies_none Int [] n d e h = absurd h.0
 lies_none Real [] n d e h = absurd h

@@ -76,4 +76,13 @@ impl<T: MadeWith<Global> + Copy> Short<T> {
         let items = SmallVec::from_slice(alloc, items)?;
         Ok(Short { items })
     }
+
+    /// Adds items at the end.
+    pub fn extend_from_slice(&mut self, more: &[T]) -> Result<(), AllocError>
+        ensures ok { OnOk result (self.new ≡ self.old ++ more.now) }
+        ensures err { OnErr result (self.new ≡ self.old) }
+    {
+        self.items.extend_from_slice(more)?;
+        Ok(())
+    }
 }

@@ -1,0 +1,5 @@
+pub mod Rows
+pub mod Terms
+pub mod Boxes
+pub mod Links
+pub mod Forms

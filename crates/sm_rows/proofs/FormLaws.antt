@@ -324,3 +324,7 @@ if_small m l (Some f) e = form_small m l f (sym e)
 pub if_law : (m : FlatModel) (l : Literal) (o : Option ColumnForm) → IsFlat m → o ≡ form_of m l → IfSome o (λ (f : ColumnForm). (a : Point) → Fits m a → IsDiscrete m.vars l.var → form_at a f ≡ cond (is_true a l) a.denominator (pos 0))
 if_law m l None flat e = search rules
 if_law m l (Some f) flat e = form_law m l f flat (sym e)
+
+-- the declared values of a linked variable rise
+pub linked_pairs : (m : FlatModel) (v : ℕ) → IsFlat m → Linked m v → AllPairs (λ (x y : ℤ). x <ℤ y) (var_at m.vars v).values
+linked_pairs m v flat known = listed_pairs (var_at m.vars v).kind (var_at m.vars v).values known.kind (flat.vars.each v no_var known.known)

@@ -4,7 +4,7 @@ use Rattle.sm_kinds.specs.declared.literal.Literal.{Literal}
 use Rattle.sm_flat.specs.Assignments.{Numbers}
 use Rattle.sm_step.specs.declared.verdict.Verdict.{Verdict}
 use Rattle.sm_rules.specs.declared.last_line.LastLine.{LastLine}
-use Rattle.sm_rules.specs.Cuts.{Row}
+use Rattle.sm_rows.specs.declared.row.Row.{Row}
 use Rattle.sm_rules.specs.Trees.{Tree}
 
 pub record State : Type 0 where

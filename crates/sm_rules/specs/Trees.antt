@@ -1,14 +1,13 @@
 -- A tree: its nodes whose own tree isn't refuted, in order of their numbers.
-use Rattle.std.specs.Prelude.{◌≡◌, ℕ, ◌+◌, ◌<◌, List, [], ◌∷◌, ◌++◌, ℤ, pos, Bool, ◌&&◌, not, ◌==◌, All, AllPairs, ◌⊎◌, if◌then◌else◌}
-use Rattle.std.specs.List.{list_all, list_any}
+use Rattle.std.specs.Prelude.{◌≡◌, ℕ, ◌+◌, ◌<◌, List, [], ◌∷◌, ◌++◌, Bool, ◌&&◌, not, ◌==◌, All, AllPairs, ◌⊎◌, if◌then◌else◌}
+use Rattle.std.specs.List.{list_all}
 use Rattle.sm_kinds.specs.declared.literal.Literal.{Literal}
 use Rattle.sm_flat.specs.Models.{FlatModel}
 use Rattle.sm_kinds.specs.Points.{Point}
-use Rattle.sm_flat.specs.declared.goal.Goal.{Goal}
-use Rattle.sm_store.specs.Stores.{Extent, In, narrow, narrow_all, is_empty}
+use Rattle.sm_store.specs.Stores.{Extent, In, narrow}
 use Rattle.sm_rules.specs.declared.node.Status.TheVariants.{Open}
-use Rattle.sm_rules.specs.Floors.{AreFloors, numbers_of, greater, raised}
-use Rattle.sm_rules.specs.Objectives.{costs, least_cost, least_costs}
+use Rattle.sm_rules.specs.Floors.{AreFloors, numbers_of, raised}
+use Rattle.sm_rules.specs.Objectives.{costs, least_costs}
 use Rattle.sm_rules.specs.Nodes.{NodeOf, NodeView, no_node, Covers, is_split, with_child}
 
 pub record Tree : Type 0 where
@@ -57,29 +56,6 @@ focus_of t = node_at t.nodes t.focus
 -- the focus is closed: it is dropped, and with it each node above whose own tree is refuted then
 abbrev pub close_focus : Tree → Tree
 close_focus t = record t { nodes = pruned (without_node t.nodes t.focus) }
-
--- some variable has no value
-abbrev pub has_empty : List Extent → Bool
-has_empty store = list_any (λ (e : Extent). is_empty e.values) store
-
--- the focus with the part of its store that the literals leave, one after the other; it is closed where a variable has no value then
-abbrev pub narrow_focus : List Literal → Tree → Tree
-narrow_focus ls t =
-    let old = focus_of t in
-    let store = narrow_all old.store ls in
-    if has_empty store then close_focus t else record t { nodes = set_node t.nodes t.focus (record old { store = store }) }
-
--- the first floor becomes the least cost of the first goal over the store, where that is greater
-abbrev pub raised_first : List Goal → List Extent → List (ℤ × ℤ) → List (ℤ × ℤ)
-raised_first [] store fs = fs
-raised_first (g ∷ gs) store [] = []
-raised_first (g ∷ gs) store (f ∷ fs) = greater f (least_cost store g, pos 1) ∷ fs
-
--- the focus with its first floor raised
-abbrev pub raise_focus : FlatModel → Tree → Tree
-raise_focus m t =
-    let old = focus_of t in
-    record t { nodes = set_node t.nodes t.focus (record old { floors = raised_first m.goals old.store old.floors }) }
 
 -- the child that a literal opens: its floors are the parent's, or the least costs over its store where these are greater
 abbrev pub child_of : FlatModel → ℕ → NodeView → Literal → NodeView

@@ -1,7 +1,8 @@
 -- Each allowed line keeps Sound, and an allowed verdict of a sound state is true.
-use Rattle.std.proofs.Common.{◌≡◌, ℕ, ◌<◌, Bool, true, false, cond, Option, Some, None, List, [], ◌∷◌, length, map, get_or, refl, subst, ◌∙◌, arith, inl, inr}
+use Rattle.std.proofs.Common.{◌≡◌, ℕ, suc, ◌<◌, Bool, true, false, cond, Option, Some, None, List, [], ◌∷◌, length, map, get_or, refl, subst, ◌∙◌, arith, inl, inr}
 use Rattle.std.specs.Ordering.{int_eq}
-use Rattle.std.specs.Prelude.{ℤ, pos, ◌*ℤ◌, ◌<ℤ◌, ◌≤ℤ◌, All, IfSome, IsSome, MatchOption, ◌==◌, unsigned_abs}
+use Rattle.std.specs.List.{list_any}
+use Rattle.std.specs.Prelude.{ℤ, pos, ◌*ℤ◌, ◌<ℤ◌, ◌≤ℤ◌, All, IfSome, IsSome, MatchOption, ◌==◌, ◌||◌, unsigned_abs}
 use Rattle.std.proofs.lemmas.Int.{ints}
 use Rattle.std.proofs.lemmas.Bool.{cases_lt}
 use Rattle.std.proofs.lemmas.List.{get_or_past}
@@ -22,8 +23,14 @@ use Rattle.sm_flat.specs.Forms.{Sat}
 use Rattle.sm_flat.specs.Goals.{cost, IsBetterBy, IsBetter, HasValues}
 use Rattle.sm_flat.specs.Solutions.{Fits, Solves, SolvesOn, IsOptimum}
 use Rattle.sm_flat.specs.Limits.{IsFlat}
-use Rattle.sm_store.specs.Stores.{Extent, no_extent, extent_at, In, narrow, declared, fixed_value, one_end, fixed_at, fixed_point, IsStoreOf}
+use Rattle.sm_store.specs.Stores.{Extent, no_extent, extent_at, In, narrow, narrow_all, is_empty, declared, fixed_value, one_end, fixed_at, fixed_point, IsStoreOf}
 use Rattle.sm_store.proofs.Parts.{store_declared, store_narrowed, in_declared}
+use Rattle.sm_store.proofs.Narrowing.{In-from_narrow}
+use Rattle.sm_step.specs.declared.rule.Rule.{Rule}
+use Rattle.sm_step.specs.declared.line.Outcome.{Outcome}
+use Rattle.sm_step.specs.declared.line.Outcome.TheVariants.{Close, Literals}
+use Rattle.sm_rows.specs.Inferences.{constraint_of, IsInference}
+use Rattle.sm_rows.proofs.Inferring.{lies_none, inference_closes, inference_keeps}
 use Rattle.sm_step.specs.declared.line.Line.{Line}
 use Rattle.sm_step.specs.declared.line.Line.TheVariants as line
 use Rattle.sm_step.specs.declared.verdict.Verdict.{Verdict}
@@ -34,18 +41,18 @@ use Rattle.sm_rules.specs.declared.node.Status.TheVariants.{Open}
 use Rattle.sm_rules.specs.Objectives.{costs}
 use Rattle.sm_rules.specs.Floors.{AreFloors, numbers_of}
 use Rattle.sm_rules.specs.Nodes.{NodeView, CoversPart, Covers, TakesChild, LawfulChild}
-use Rattle.sm_rules.specs.Trees.{node_at, focus_of, close_focus, IsRefuted}
+use Rattle.sm_rules.specs.Trees.{node_at, focus_of, close_focus, has_empty, with_focus, raised_first, raise_focus, IsRefuted}
 use Rattle.sm_rules.specs.Violations.{AreFixed, IsViolated}
 use Rattle.sm_kinds.proofs.SameValues.{EqualAt, EqualAt-whole}
 use Rattle.sm_flat.proofs.Meaning.{same_values, each_var}
 use Rattle.sm_rules.specs.States.{State}
 use Rattle.sm_rules.specs.Laws.{BeatsBest, IsNextBest, LawfulVerdict, Allowed}
 use Rattle.sm_rules.specs.Cuts.{SatisfiesLemma, SatisfiesCut}
-use Rattle.sm_rules.specs.Transitions.{with_tree, after, start}
+use Rattle.sm_rules.specs.Transitions.{with_tree, concluded, after, start}
 use Rattle.sm_rules.specs.Sound.{Live, Sound, named, IsNodeOf, IsOf, IsTrueOn}
-use Rattle.sm_rules.proofs.LeastCosts.{AreOrdered}
+use Rattle.sm_rules.proofs.LeastCosts.{AreOrdered, least_costs-le}
 use Rattle.sm_rules.proofs.Levels.{fraction_lt, fraction_equal, none_better}
-use Rattle.sm_rules.proofs.Moves.{node_low, close_keeps, open_keeps, root_sound, refuted_none, fewer_keeps}
+use Rattle.sm_rules.proofs.Moves.{node_low, close_keeps, open_keeps, root_sound, refuted_none, fewer_keeps, focus_keeps, first_raised}
 
 -- ---- better goes on
 
@@ -142,6 +149,14 @@ goals_known m store flat wide i d lt = rw wide (flat.goals.each i d lt).sum.know
 
 -- ---- the kinds of line
 
+any_found : {X : Type 0} (p : X → Bool) (xs : List X) (d : X) → list_any p xs ≡ true → (i : ℕ) × (i < length xs) × (p (get_or xs i d) ≡ true)
+any_found p [] d h = absurd (cc)
+any_found p (x ∷ xs) d h = by_test (p x) refl h (any_found p xs d)
+  where
+    by_test : (b : Bool) → p x ≡ b → (b || list_any p xs) ≡ true → (list_any p xs ≡ true → (i : ℕ) × (i < length xs) × (p (get_or xs i d) ≡ true)) → (i : ℕ) × (i < suc (length xs)) × (p (get_or (x ∷ xs) i d) ≡ true)
+    by_test true e h rest = (0, omega arith, e)
+    by_test false e h rest = let at = rest h in (suc at.0, omega (arith, at.1), at.2)
+
 module _ (m : FlatModel) (s : ℕ → Bool) (state : State) (of : IsOf m state) (sound : Sound m s state) where
   -- an open focus covers what lies in its store
   lies_covered : (a : Point) (status : Status) (store : List Extent) → status ≡ Open → CoversPart a store status → In a store
@@ -200,10 +215,77 @@ module _ (m : FlatModel) (s : ℕ → Bool) (state : State) (of : IsOf m state) 
     cuts = sound.cuts;
   }
 
+  -- a store with an empty domain has no assignment
+  none_lies : (a : Point) (store : List Extent) → In a store → has_empty store ≡ true → ⊥
+  none_lies a store lies empty =
+      let at = any_found (λ (e : Extent). is_empty e.values) store no_extent empty in
+      let e = extent_at store at.0 in
+      lies_none e.kind e.values (a.numerator at.0) a.denominator at.2 (lies at.0 at.1)
+
+  -- what lies in a narrowed store lies in the store
+  lies_before : (a : Point) (store : List Extent) (ls : List Literal) → pos 0 <ℤ a.denominator → In a (narrow_all store ls) → In a store
+  lies_before a store [] above h = h
+  lies_before a store (l ∷ ls) above h = In-from_narrow a store l above (lies_before a (narrow store l) ls above h)
+
+  inferred : (r : Rule) (outcome : Outcome) → (focus_of state.main).status ≡ Open → IsInference m (focus_of state.main).store r outcome → s (constraint_of r) ≡ true → Sound m s (with_tree state (concluded outcome state.main))
+  inferred r Close is_open law named =
+      closed (λ a live h.
+      let lies = lies_covered a old.status old.store is_open h in
+      inference_closes m of.flat old.store node.store r a live.solves.fits.positive lies (λ c e. live.solves.satisfies (constraint_of r) c named e) law)
+    where
+      old : NodeView
+      old = focus_of state.main
+
+      node : IsNodeOf m old
+      node = all_at (λ (n : NodeView). IsNodeOf m n) state.main.nodes state.main.focus of.nodes (takes_open old.status is_open)
+  inferred r (Literals ls) is_open law named = by_test (has_empty (narrow_all old.store ls)) refl
+    where
+      old : NodeView
+      old = focus_of state.main
+
+      new : NodeView
+      new = record old { store = narrow_all old.store ls }
+
+      node : IsNodeOf m old
+      node = all_at (λ (n : NodeView). IsNodeOf m n) state.main.nodes state.main.focus of.nodes (takes_open old.status is_open)
+
+      left : (a : Point) → Live m s state.best a → Covers a old → In a (narrow_all old.store ls)
+      left a live h =
+          let lies = lies_covered a old.status old.store is_open h in
+          inference_keeps m of.flat old.store node.store r a live.solves.fits.positive lies (λ c e. live.solves.satisfies (constraint_of r) c named e) ls law
+
+      covers : (a : Point) → In a (narrow_all old.store ls) → Covers a new
+      covers a h = rw is_open h
+
+      by_test : (b : Bool) → has_empty (narrow_all old.store ls) ≡ b → Sound m s (with_tree state (cond b (close_focus state.main) (with_focus state.main new)))
+      by_test true e = closed (λ a live h. none_lies a (narrow_all old.store ls) (left a live h) e)
+      by_test false e = record {
+        best = sound.best;
+        tree = focus_keeps m (Live m s state.best) state.main new (λ a live h. covers a (left a live h)) (λ a live low h. low (lies_before a old.store ls live.solves.fits.positive h)) sound.tree;
+        lemmas = sound.lemmas;
+        cuts = sound.cuts;
+      }
+
+  floored : (focus_of state.main).status ≡ Open → Sound m s (with_tree state (raise_focus m state.main))
+  floored is_open =
+      let old = focus_of state.main in
+      let new : NodeView = record old { floors = raised_first m.goals old.store old.floors } in
+      let node = all_at (λ (n : NodeView). IsNodeOf m n) state.main.nodes state.main.focus of.nodes (takes_open old.status is_open) in
+      record {
+        best = sound.best;
+        tree = focus_keeps m (Live m s state.best) state.main new (λ a live h. h)
+            (λ a live low h. first_raised m.goals old.store old.floors (costs m a) (low h) (least_costs-le a old.store m.goals live.solves.fits.positive (ordered_of m old.store node.store) h (goals_known m old.store of.flat node.store.wide)))
+            sound.tree;
+        lemmas = sound.lemmas;
+        cuts = sound.cuts;
+      }
+
 -- each allowed line keeps Sound, for each test that passes the constraints that it names
 pub sound_after : (m : FlatModel) (s : ℕ → Bool) (state : State) (l : Line) → IsOf m state → Allowed m state l → All (λ k. s k ≡ true) (named l) → Sound m s state → Sound m s (after m state l)
 sound_after m s state (line.Header version) of ok within sound = record { best = sound.best; tree = sound.tree; lemmas = sound.lemmas; cuts = sound.cuts }
 sound_after m s state (line.Node id parent l) of ok within sound = opened m s state of sound parent l ok.due.order.takes ok.law id
+sound_after m s state (line.Infer r outcome) of ok within sound = inferred m s state of sound r outcome ok.due.order.is_open ok.law (All-head (λ k. s k ≡ true) (constraint_of r) [] within)
+sound_after m s state (line.Floor terms) of ok within sound = floored m s state of sound ok.due.order.is_open
 sound_after m s state line.CloseFloor of ok within sound = beaten m s state of sound ok.due.order.is_open ok.law
 sound_after m s state (line.Violated k) of ok within sound = violated m s state of sound k ok.due.order.is_open ok.law (All-head (λ k. s k ≡ true) k [] within)
 sound_after m s state (line.Sol d vs) of ok within sound = solved m s state of sound d vs ok.law

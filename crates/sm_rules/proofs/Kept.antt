@@ -11,17 +11,21 @@ use Rattle.sm_kinds.specs.declared.literal.Literal.{Literal}
 use Rattle.sm_flat.specs.declared.goal.Goal.{Goal}
 use Rattle.sm_flat.specs.Models.{FlatModel}
 use Rattle.sm_flat.specs.Limits.{IsFlat}
-use Rattle.sm_store.specs.Stores.{Extent, narrow, declared}
+use Rattle.sm_store.specs.Stores.{Extent, narrow, narrow_all, declared, IsStoreOf}
 use Rattle.sm_store.proofs.Parts.{store_narrowed, store_declared}
 use Rattle.sm_step.specs.declared.line.Line.{Line}
 use Rattle.sm_step.specs.declared.line.Line.TheVariants as line
+use Rattle.sm_step.specs.declared.line.Outcome.{Outcome}
+use Rattle.sm_step.specs.declared.line.Outcome.TheVariants.{Close, Literals}
+use Rattle.sm_rules.specs.declared.node.Status.{Status}
+use Rattle.sm_rules.specs.declared.node.Status.TheVariants.{Open}
 use Rattle.sm_rules.specs.Floors.{greater, raised}
 use Rattle.sm_rules.specs.Objectives.{least_costs, least_cost}
 use Rattle.sm_rules.specs.Nodes.{NodeView, is_split, with_child, TakesChild}
-use Rattle.sm_rules.specs.Trees.{Tree, node_at, set_node, without_node, has_no_child, is_done, close_focus, open_child, child_of, IsNumbered}
+use Rattle.sm_rules.specs.Trees.{Tree, node_at, focus_of, set_node, without_node, has_no_child, is_done, has_empty, close_focus, with_focus, narrow_focus, raised_first, raise_focus, open_child, child_of, IsNumbered}
 use Rattle.sm_rules.specs.States.{State}
 use Rattle.sm_rules.specs.Laws.{Allowed}
-use Rattle.sm_rules.specs.Transitions.{with_tree, after, start}
+use Rattle.sm_rules.specs.Transitions.{with_tree, concluded, after, start}
 use Rattle.sm_rules.specs.Sound.{IsNodeOf, IsOf}
 use Rattle.sm_rules.specs.Places.{AreRising}
 use Rattle.sm_rules.proofs.NodeLists.{all_set, all_pruned, all_without, pairs_set, pairs_pruned, pairs_without}
@@ -106,6 +110,9 @@ all_at P (n ∷ ns) k h takes = by_test (n.number == k) takes (All-head P n ns h
     by_test true takes here rest = here
     by_test false takes here rest = rest takes
 
+takes_open : (status : Status) → status ≡ Open → TakesChild status
+takes_open status e = rw e tt
+
 length-raised : (gs xs : List (ℤ × ℤ)) → length gs ≡ length xs → length (raised gs xs) ≡ length gs
 length-raised [] xs e = refl
 length-raised (g ∷ gs) [] e = absurd (omega arith)
@@ -165,9 +172,79 @@ of_closed m s of = record {
   best = of.best;
 }
 
+-- the focus with another store or other floors
+pub needed_set : (ns : List NodeView) (k : ℕ) (new : NodeView) → is_split new.status ≡ false → new.parent ≡ (node_at ns k).parent → AllNeeded ns → AllNeeded (set_node ns k new)
+needed_set [] k new is_open parent h = tt
+needed_set (n ∷ ns) k new is_open parent h = by_test (n.number == k) parent (needed_set ns k new is_open)
+  where
+    by_test : (b : Bool) → new.parent ≡ (cond b n (node_at ns k)).parent → (new.parent ≡ (node_at ns k).parent → AllNeeded ns → AllNeeded (set_node ns k new)) → AllNeeded (cond b (new ∷ ns) (n ∷ set_node ns k new))
+    by_test true parent rest = (false_and (is_split new.status) (has_no_child new.number ns) is_open, h.1)
+    by_test false parent rest =
+        let same : is_done n (set_node ns k new) ≡ false = rw (no_child-set n.number ns k new parent) h.0 in
+        (same, rest parent h.1)
+
+of_focus : (m : FlatModel) (s : State) (new : NodeView) → IsOf m s → is_split new.status ≡ false → new.number ≡ (focus_of s.main).number → new.parent ≡ (focus_of s.main).parent → IsNodeOf m new → IsOf m (with_tree s (with_focus s.main new))
+of_focus m s new of is_open number parent node = record {
+  flat = of.flat;
+  nodes = all_set (λ (n : NodeView). IsNodeOf m n) s.main.nodes s.main.focus new (λ h. node) of.nodes;
+  numbered = record {
+    rising = rising_set s.main.nodes s.main.focus new number of.numbered.rising;
+    below = all_set (λ (n : NodeView). n.number < s.main.count) s.main.nodes s.main.focus new (λ lt. rw number lt) of.numbered.below;
+  };
+  kept = kept_from_needed (set_node s.main.nodes s.main.focus new) (needed_set s.main.nodes s.main.focus new is_open parent (needed_from_kept s.main.nodes of.kept));
+  best = of.best;
+}
+
+store_narrowed_all : (m : FlatModel) (store : List Extent) (ls : List Literal) → IsStoreOf m store → IsStoreOf m (narrow_all store ls)
+store_narrowed_all m store [] of = of
+store_narrowed_all m store (l ∷ ls) of = store_narrowed_all m (narrow store l) ls (store_narrowed m store l of)
+
+pub open_not_split : (status : Status) → status ≡ Open → is_split status ≡ false
+open_not_split status e = rw e refl
+
+of_narrowed : (m : FlatModel) (s : State) (ls : List Literal) → IsOf m s → (focus_of s.main).status ≡ Open → IsOf m (with_tree s (narrow_focus ls s.main))
+of_narrowed m s ls of is_open = by_test (has_empty (narrow_all old.store ls))
+  where
+    old : NodeView
+    old = focus_of s.main
+
+    new : NodeView
+    new = record old { store = narrow_all old.store ls }
+
+    by_test : (b : Bool) → IsOf m (with_tree s (cond b (close_focus s.main) (with_focus s.main new)))
+    by_test true = of_closed m s of
+    by_test false =
+        let node = all_at (λ (n : NodeView). IsNodeOf m n) s.main.nodes s.main.focus of.nodes (takes_open old.status is_open) in
+        of_focus m s new of (open_not_split old.status is_open) refl refl (record { store = store_narrowed_all m old.store ls node.store; floors = node.floors; positive = node.positive })
+
+length-raised_first : (goals : List Goal) (store : List Extent) (fs : List (ℤ × ℤ)) → length (raised_first goals store fs) ≡ length fs
+length-raised_first [] store fs = refl
+length-raised_first (g ∷ goals) store [] = refl
+length-raised_first (g ∷ goals) store (f ∷ fs) = refl
+
+positive_first : (goals : List Goal) (store : List Extent) (fs : List (ℤ × ℤ)) → All (λ p. pos 0 <ℤ p.1) fs → All (λ p. pos 0 <ℤ p.1) (raised_first goals store fs)
+positive_first [] store fs h = h
+positive_first (g ∷ goals) store [] h = h
+positive_first (g ∷ goals) store (f ∷ fs) h =
+    let P : ℤ × ℤ → Type 0 = λ p. pos 0 <ℤ p.1 in
+    All-cons P (greater f (least_cost store g, pos 1)) fs (greater_either P f (least_cost store g, pos 1) (All-head P f fs h) (omega (arith, ints))) (All-tail P f fs h)
+
+of_raised : (m : FlatModel) (s : State) → IsOf m s → (focus_of s.main).status ≡ Open → IsOf m (with_tree s (raise_focus m s.main))
+of_raised m s of is_open =
+    let old = focus_of s.main in
+    let node = all_at (λ (n : NodeView). IsNodeOf m n) s.main.nodes s.main.focus of.nodes (takes_open old.status is_open) in
+    of_focus m s (record old { floors = raised_first m.goals old.store old.floors }) of (open_not_split old.status is_open) refl refl
+    (record { store = node.store; floors = length-raised_first m.goals old.store old.floors ∙ node.floors; positive = positive_first m.goals old.store old.floors node.positive })
+
+of_concluded : (m : FlatModel) (s : State) (outcome : Outcome) → IsOf m s → (focus_of s.main).status ≡ Open → IsOf m (with_tree s (concluded outcome s.main))
+of_concluded m s Close of is_open = of_closed m s of
+of_concluded m s (Literals ls) of is_open = of_narrowed m s ls of is_open
+
 pub of_after : (m : FlatModel) (s : State) (l : Line) → IsOf m s → Allowed m s l → IsOf m (after m s l)
 of_after m s (line.Header version) of ok = record { flat = of.flat; nodes = of.nodes; numbered = of.numbered; kept = of.kept; best = of.best }
 of_after m s (line.Node id parent l) of ok = of_opened m s parent l of ok.due.order.takes
+of_after m s (line.Infer r outcome) of ok = of_concluded m s outcome of ok.due.order.is_open
+of_after m s (line.Floor terms) of ok = of_raised m s of ok.due.order.is_open
 of_after m s line.CloseFloor of ok = of_closed m s of
 of_after m s (line.Violated k) of ok = of_closed m s of
 of_after m s (line.Sol denominator values) of ok = record { flat = of.flat; nodes = of.nodes; numbered = of.numbered; kept = of.kept; best = record { fit = ok.law.fit; each = ok.law.each } }

@@ -58,7 +58,7 @@ nodes_agree s t k (n ∷ ns) same none =
     both_cons x y xs ys e f = rw (e, f) refl
 
 -- the store of a node that has no child isn't asked for
-unseen : (s : ℕ → List Extent) (n : KeptNode) (ns : List KeptNode) → has_no_child n.number ns ≡ true → nodes_of (with_store s (node_of s n)) ns ≡ nodes_of s ns
+pub unseen : (s : ℕ → List Extent) (n : KeptNode) (ns : List KeptNode) → has_no_child n.number ns ≡ true → nodes_of (with_store s (node_of s n)) ns ≡ nodes_of s ns
 unseen s n ns none = nodes_agree (with_store s (node_of s n)) s n.number ns (λ j other. by_test j (other_number n.number j (λ e. other (sym e)))) none
   where
     by_test : (j : ℕ) → (n.number == j) ≡ false → with_store s (node_of s n) j ≡ s j

@@ -1,8 +1,7 @@
 -- No assignment in a store costs less than the least cost over its boxes.
-use Rattle.std.proofs.Common.{◌≡◌, ℕ, suc, ◌-◌, ◌<◌, Bool, true, false, cond, List, [], ◌∷◌, length, get_or, refl, arith, sym, ap, ◌∙◌, inl, inr}
-use Rattle.std.specs.Prelude.{ℤ, pos, ◌+ℤ◌, ◌*ℤ◌, neg_ℤ, ◌<ℤ◌, ◌≤ℤ◌, int_le, All, AllPairs, unsigned_abs}
+use Rattle.std.proofs.Common.{◌≡◌, ℕ, ◌<◌, Bool, true, false, cond, List, [], ◌∷◌, length, refl, arith, sym, ap, ◌∙◌}
+use Rattle.std.specs.Prelude.{ℤ, pos, ◌+ℤ◌, ◌*ℤ◌, neg_ℤ, ◌<ℤ◌, ◌≤ℤ◌, int_le, All, unsigned_abs}
 use Rattle.std.proofs.lemmas.Int.{ints}
-use Rattle.std.proofs.lemmas.Bool.{cases_eq}
 use Rattle.std.proofs.lemmas.List.Elements.{All-head, All-tail}
 use Rattle.std.proofs.Math.IntN.{*ℤ_comm, *ℤ-zero}
 use Rattle.sm_frac.proofs.IntRing.{*ℤ_assoc, +ℤ-*ℤ, pos_abs}
@@ -11,8 +10,6 @@ use Rattle.sm_frac.proofs.Order.{fraction_le_cross}
 use Rattle.sm_flat.specs.declared.goal.Goal.{Goal}
 use Rattle.sm_flat.specs.declared.goal.Sense.{Sense}
 use Rattle.sm_flat.specs.declared.goal.Sense.TheVariants.{Minimise, Maximise, Satisfy}
-use Rattle.sm_kinds.specs.declared.var.VarKind.{VarKind}
-use Rattle.sm_kinds.specs.declared.var.VarKind.TheVariants.{Set, Int, Real}
 use Rattle.sm_kinds.specs.Points.{Point}
 use Rattle.sm_kinds.specs.Sums.{sum_at}
 use Rattle.sm_flat.specs.Goals.{minimised, cost}

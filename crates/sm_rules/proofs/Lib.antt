@@ -15,3 +15,5 @@ pub mod Kept
 pub mod Children
 pub mod Goals
 pub mod Violating
+pub mod FocusChanges
+pub mod Outcomes

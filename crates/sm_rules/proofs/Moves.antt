@@ -11,9 +11,9 @@ use Rattle.sm_store.proofs.Narrowing.{In-narrow, In-from_narrow}
 use Rattle.sm_rules.specs.declared.node.Status.{Status}
 use Rattle.sm_rules.specs.declared.node.Status.TheVariants.{Open, Half, Split}
 use Rattle.sm_rules.specs.Floors.{AreFloors, number_of, numbers_of, greater, raised}
-use Rattle.sm_rules.specs.Objectives.{costs, least_costs}
+use Rattle.sm_rules.specs.Objectives.{costs, least_cost, least_costs}
 use Rattle.sm_rules.specs.Nodes.{NodeView, CoversPart, Covers, TakesChild, LawfulChild, with_child, is_split}
-use Rattle.sm_rules.specs.Trees.{Tree, node_at, set_node, without_node, has_no_child, is_done, pruned, focus_of, close_focus, child_of, open_child, root_of, Covered, AllLow, TreeSound}
+use Rattle.sm_rules.specs.Trees.{Tree, raised_first, node_at, set_node, without_node, has_no_child, is_done, pruned, focus_of, close_focus, child_of, open_child, root_of, Covered, AllLow, TreeSound}
 use Rattle.sm_rules.proofs.LeastCosts.{AreOrdered, least_costs-le}
 use Rattle.sm_rules.proofs.Levels.{both_true}
 
@@ -139,6 +139,12 @@ greater_le p q v h k = by_test (int_lt (p.0 *ℤ q.1) (q.0 *ℤ p.1))
     by_test true = k
     by_test false = h
 
+pub first_raised : (goals : List Goal) (store : List Extent) (fs : List (ℤ × ℤ)) (vs : List ℚ) → AreFloors (numbers_of fs) vs → AreFloors (numbers_of (least_costs goals store)) vs → AreFloors (numbers_of (raised_first goals store fs)) vs
+first_raised [] store fs vs one two = one
+first_raised (g ∷ goals) store [] vs one two = tt
+first_raised (g ∷ goals) store (f ∷ fs) [] one two = absurd one
+first_raised (g ∷ goals) store (f ∷ fs) (v ∷ vs) one two = (greater_le f (least_cost store g, pos 1) v one.0 two.0, one.1)
+
 raised_floors : (gs xs : List (ℤ × ℤ)) (vs : List ℚ) → AreFloors (numbers_of gs) vs → AreFloors (numbers_of xs) vs → AreFloors (numbers_of (raised gs xs)) vs
 raised_floors [] xs vs one two = tt
 raised_floors (g ∷ gs) [] vs one two = tt
@@ -153,6 +159,15 @@ module _ (m : FlatModel) (P : Point → Type 0) where
   close_keeps t none sound = record {
     covered = λ a p. Covered-pruned a (without_node t.nodes t.focus) (Covered-without a t.nodes t.focus (none a p) (sound.covered a p));
     floors = λ a p. AllLow-pruned m a (without_node t.nodes t.focus) (AllLow-without m a t.nodes t.focus (sound.floors a p));
+  }
+
+  -- the focus has another store or other floors, which still cover what it covered, and are as low
+  pub focus_keeps : (t : Tree) (new : NodeView) → ((a : Point) → P a → Covers a (focus_of t) → Covers a new) → ((a : Point) → P a → IsLow m a (focus_of t) → IsLow m a new) → TreeSound m P t.nodes → TreeSound m P (set_node t.nodes t.focus new)
+  focus_keeps t new covers low sound = record {
+    covered = λ a p. Covered-set a t.nodes t.focus new (covers a p) (sound.covered a p);
+    floors = λ a p.
+        let lows = sound.floors a p in
+        AllLow-set m a t.nodes t.focus new (low a p (node_low m a t.nodes t.focus lows)) lows;
   }
 
   -- a child opens

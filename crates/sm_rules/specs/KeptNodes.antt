@@ -5,8 +5,11 @@ use Rattle.sm_flat.specs.Models.{FlatModel}
 use Rattle.sm_store.specs.Stores.{Extent, narrow_all}
 use Rattle.sm_rules.specs.declared.node.Status.{Status}
 use Rattle.sm_rules.specs.declared.node.Status.TheVariants.{Open, Half, Split}
+use Rattle.sm_step.specs.declared.line.Outcome.{Outcome}
+use Rattle.sm_step.specs.declared.line.Outcome.TheVariants.{Close, Literals}
 use Rattle.sm_rules.specs.Floors.{raised}
 use Rattle.sm_rules.specs.Objectives.{least_costs}
+use Rattle.sm_rules.specs.Trees.{raised_first}
 use Rattle.sm_rules.specs.Nodes.{NodeOf, NodeView, KeptNode, with_child}
 use Rattle.sm_rules.specs.Places.{AreRising, at_place}
 
@@ -56,6 +59,20 @@ kept_child m number parent l store = record {
 abbrev pub with_kept_child : FlatModel → List KeptNode → ℕ → ℕ → Literal → List Extent → List KeptNode
 with_kept_child m ns place number l store = slice_set ns place (marked (at_place ns place) l) ++ kept_child m number (at_place ns place) l store ∷ []
 
+-- ---- the focus is narrowed, or its floors raised
+
+abbrev pub narrowed_node : KeptNode → List Literal → KeptNode
+narrowed_node n ls = record n { store = n.store ++ ls }
+
+abbrev pub with_narrowed : List KeptNode → ℕ → List Literal → List KeptNode
+with_narrowed ns place ls = slice_set ns place (narrowed_node (at_place ns place) ls)
+
+abbrev pub raised_node : FlatModel → List Extent → KeptNode → KeptNode
+raised_node m store n = record n { floors = raised_first m.goals store n.floors }
+
+abbrev pub with_raised : FlatModel → List Extent → List KeptNode → ℕ → List KeptNode
+with_raised m store ns place = slice_set ns place (raised_node m store (at_place ns place))
+
 -- ---- what holds of them
 
 -- the first child's literal is of a known variable, and small enough to have a complement
@@ -70,6 +87,11 @@ IsStatusKnown width (Split first) = Unit {0}
 
 abbrev pub AreKnown : ℕ → List Literal → Type 0
 AreKnown width ls = All (λ (l : Literal). l.var < width) ls
+
+-- what an inference comes to is of known variables
+abbrev pub IsOutcomeKnown : ℕ → Outcome → Type 0
+IsOutcomeKnown width Close = Unit {0}
+IsOutcomeKnown width (Literals ls) = AreKnown width ls
 
 -- the literals of the node are of known variables
 pub record IsNodeKnown (width : ℕ) (n : KeptNode) : Type 0 where

@@ -1,5 +1,5 @@
 -- Which lines are lawful. A line whose rules aren't there yet never is.
-use Rattle.std.specs.Prelude.{◌≡◌, List, length, map, ℤ, Option, None, MatchOption, IfSome}
+use Rattle.std.specs.Prelude.{◌≡◌, List, [], length, map, ℤ, Option, None, MatchOption, IfSome}
 use Rattle.sm_flat.specs.declared.goal.Sense.TheVariants.{Satisfy}
 use Rattle.sm_flat.specs.Models.{FlatModel}
 use Rattle.sm_flat.specs.Assignments.{point, point_of}
@@ -11,6 +11,7 @@ use Rattle.sm_step.specs.declared.line.Line.TheVariants as line
 use Rattle.sm_step.specs.declared.verdict.Verdict.{Verdict}
 use Rattle.sm_step.specs.declared.verdict.Verdict.TheVariants.{Optimal, Satisfied, Infeasible, Limit, Range}
 use Rattle.sm_step.specs.Verdicts.{parts_of}
+use Rattle.sm_rows.specs.Inferences.{IsInference}
 use Rattle.sm_rules.specs.Floors.{EndsNode, numbers_of}
 use Rattle.sm_rules.specs.Objectives.{levels}
 use Rattle.sm_rules.specs.Nodes.{LawfulChild}
@@ -43,6 +44,8 @@ LawfulVerdict m s (Range bound best) = ⊥
 abbrev pub Lawful : FlatModel → State → Line → Type 0
 Lawful m s (line.Header version) = version ≡ 1
 Lawful m s (line.Node id parent literal) = LawfulChild (node_at (current s).nodes parent).store (node_at (current s).nodes parent).status literal
+Lawful m s (line.Infer r outcome) = IsInference m (focus_of (current s)).store r outcome
+Lawful m s (line.Floor terms) = terms ≡ []
 Lawful m s line.CloseFloor = BeatsBest m (focus_of (current s)).floors s.best
 Lawful m s (line.Violated k) = IsViolated m (focus_of (current s)).store k
 Lawful m s (line.Sol denominator values) = IsNextBest m s.best denominator values

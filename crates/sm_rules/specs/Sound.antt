@@ -10,6 +10,7 @@ use Rattle.sm_flat.specs.Limits.{IsFlat}
 use Rattle.sm_store.specs.Stores.{IsStoreOf}
 use Rattle.sm_step.specs.declared.line.Line.{Line}
 use Rattle.sm_step.specs.declared.line.Line.TheVariants as line
+use Rattle.sm_rows.specs.Inferences.{constraint_of}
 use Rattle.sm_rules.specs.Nodes.{NodeView}
 use Rattle.sm_rules.specs.Trees.{TreeSound, IsNumbered, pruned}
 use Rattle.sm_rules.specs.Cuts.{SatisfiesLemma, SatisfiesCut}
@@ -28,6 +29,7 @@ pub record Sound (m : FlatModel) (s : ℕ → Bool) (state : State) : Type 0 whe
 
 -- the constraints that a line names
 abbrev pub named : Line → List ℕ
+named (line.Infer r outcome) = constraint_of r ∷ []
 named (line.Violated k) = k ∷ []
 named _ = []
 

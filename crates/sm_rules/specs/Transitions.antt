@@ -4,10 +4,12 @@ use Rattle.sm_flat.specs.Models.{FlatModel}
 use Rattle.sm_store.specs.Stores.{declared}
 use Rattle.sm_step.specs.declared.line.Line.{Line}
 use Rattle.sm_step.specs.declared.line.Line.TheVariants as line
+use Rattle.sm_step.specs.declared.line.Outcome.{Outcome}
+use Rattle.sm_step.specs.declared.line.Outcome.TheVariants.{Close, Literals}
 use Rattle.sm_rules.specs.declared.cause.Cause.{Cause}
 use Rattle.sm_rules.specs.declared.cause.Cause.TheVariants as cause
 use Rattle.sm_rules.specs.declared.last_line.LastLine.TheVariants.{Other}
-use Rattle.sm_rules.specs.Trees.{Tree, root_of, open_child, close_focus}
+use Rattle.sm_rules.specs.Trees.{Tree, root_of, open_child, close_focus, narrow_focus, raise_focus}
 use Rattle.sm_rules.specs.States.{State, current}
 use Rattle.sm_rules.specs.Orders.{IsDue}
 use Rattle.sm_rules.specs.Laws.{Lawful, Allowed}
@@ -16,9 +18,16 @@ use Rattle.sm_rules.specs.Laws.{Lawful, Allowed}
 abbrev pub with_tree : State → Tree → State
 with_tree s t = record s { main = t; last = Other }
 
+-- what an inference makes of a tree
+abbrev pub concluded : Outcome → Tree → Tree
+concluded Close t = close_focus t
+concluded (Literals ls) t = narrow_focus ls t
+
 abbrev pub after : FlatModel → State → Line → State
 after m s (line.Header version) = record s { version = Some version; last = Other }
 after m s (line.Node id parent literal) = with_tree s (open_child m (current s) parent literal)
+after m s (line.Infer r outcome) = with_tree s (concluded outcome (current s))
+after m s (line.Floor terms) = with_tree s (raise_focus m (current s))
 after m s line.CloseFloor = with_tree s (close_focus (current s))
 after m s (line.Violated k) = with_tree s (close_focus (current s))
 after m s (line.Sol denominator values) = record s { best = Some (record { denominator = denominator; values = values }); last = Other }

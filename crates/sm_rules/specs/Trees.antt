@@ -1,13 +1,14 @@
 -- A tree: its nodes whose own tree isn't refuted, in order of their numbers.
-use Rattle.std.specs.Prelude.{◌≡◌, ℕ, ◌+◌, ◌<◌, List, [], ◌∷◌, ◌++◌, Bool, ◌&&◌, not, ◌==◌, All, AllPairs, ◌⊎◌, if◌then◌else◌}
-use Rattle.std.specs.List.{list_all}
+use Rattle.std.specs.Prelude.{◌≡◌, ℕ, ◌+◌, ◌<◌, List, [], ◌∷◌, ◌++◌, ℤ, pos, Bool, ◌&&◌, not, ◌==◌, All, AllPairs, ◌⊎◌, if◌then◌else◌}
+use Rattle.std.specs.List.{list_all, list_any}
 use Rattle.sm_kinds.specs.declared.literal.Literal.{Literal}
 use Rattle.sm_flat.specs.Models.{FlatModel}
 use Rattle.sm_kinds.specs.Points.{Point}
-use Rattle.sm_store.specs.Stores.{Extent, In, narrow}
+use Rattle.sm_flat.specs.declared.goal.Goal.{Goal}
+use Rattle.sm_store.specs.Stores.{Extent, In, narrow, narrow_all, is_empty}
 use Rattle.sm_rules.specs.declared.node.Status.TheVariants.{Open}
-use Rattle.sm_rules.specs.Floors.{AreFloors, numbers_of, raised}
-use Rattle.sm_rules.specs.Objectives.{costs, least_costs}
+use Rattle.sm_rules.specs.Floors.{AreFloors, numbers_of, greater, raised}
+use Rattle.sm_rules.specs.Objectives.{costs, least_cost, least_costs}
 use Rattle.sm_rules.specs.Nodes.{NodeOf, NodeView, no_node, Covers, is_split, with_child}
 
 pub record Tree : Type 0 where
@@ -56,6 +57,32 @@ focus_of t = node_at t.nodes t.focus
 -- the focus is closed: it is dropped, and with it each node above whose own tree is refuted then
 abbrev pub close_focus : Tree → Tree
 close_focus t = record t { nodes = pruned (without_node t.nodes t.focus) }
+
+-- some variable has no value
+abbrev pub has_empty : List Extent → Bool
+has_empty store = list_any (λ (e : Extent). is_empty e.values) store
+
+-- this node in the place of the focus
+abbrev pub with_focus : Tree → NodeView → Tree
+with_focus t new = record t { nodes = set_node t.nodes t.focus new }
+
+-- the focus with the part of its store that the literals leave, one after the other
+abbrev pub narrowed_focus : List Literal → Tree → NodeView
+narrowed_focus ls t = record (focus_of t) { store = narrow_all (focus_of t).store ls }
+
+-- the focus is narrowed by the literals; it is closed where a variable has no value then
+abbrev pub narrow_focus : List Literal → Tree → Tree
+narrow_focus ls t = if has_empty (narrow_all (focus_of t).store ls) then close_focus t else with_focus t (narrowed_focus ls t)
+
+-- the first floor becomes the least cost of the first goal over the store, where that is greater
+abbrev pub raised_first : List Goal → List Extent → List (ℤ × ℤ) → List (ℤ × ℤ)
+raised_first [] store fs = fs
+raised_first (g ∷ gs) store [] = []
+raised_first (g ∷ gs) store (f ∷ fs) = greater f (least_cost store g, pos 1) ∷ fs
+
+-- the focus with its first floor raised
+abbrev pub raise_focus : FlatModel → Tree → Tree
+raise_focus m t = with_focus t (record (focus_of t) { floors = raised_first m.goals (focus_of t).store (focus_of t).floors })
 
 -- the child that a literal opens: its floors are the parent's, or the least costs over its store where these are greater
 abbrev pub child_of : FlatModel → ℕ → NodeView → Literal → NodeView

@@ -9,6 +9,7 @@ ghost use Rattle.sm_rules.specs.Nodes.{NodeView, LawfulChild, TakesChild};
 ghost use Rattle.sm_rules.specs.Trees.{node_at, focus_of, IsRefuted};
 ghost use Rattle.sm_rules.specs.Halves.{HasOneChild, IsLastHalf};
 ghost use Rattle.sm_rules.specs.Violations.{IsViolated};
+ghost use Rattle.sm_rows.specs.Inferences.{IsLawfulInference};
 ghost use Rattle.sm_rules.specs.Orders.{AtOpenFocus, NextChild, IsInOrder, IsDue};
 ghost use Rattle.sm_rules.specs.Laws.{BeatsBest, Lawful, LawfulVerdict, Allowed};
 ghost use Rattle.sm_rules.specs.Transitions.{after, start};
@@ -207,6 +208,8 @@ impl LogState {
                 literal,
                 ..
             } => self.main.is_lawful_child(self.alloc, *parent, literal),
+            Line::Infer { .. } => self.is_inference(flat, line),
+            Line::Floor { terms } => Ok(terms.as_slice().is_empty()),
             Line::CloseFloor => Ok(self.is_ended(flat)),
             Line::Violated { k } => Ok(self.is_violated(flat, *k)),
             Line::Sol {
@@ -222,6 +225,15 @@ impl LogState {
             Line::Verdict(verdict) => Ok(self.is_lawful_verdict(flat, verdict)),
             _ => Ok(false),
         }
+    }
+
+    /// Whether the line is an inference that is lawful at the focus.
+    fn is_inference(&self, flat: &Flat, line: &Line) -> Result<bool, AllocError>
+        requires of { IsOf flat.now self.now }
+        requires open { (focus_of self.now.main).status ≡ Status.Open }
+        ensures { IfOk result (λ r. IsTrue r ↔ IsLawfulInference flat.now (focus_of self.now.main).store line.now) }
+    {
+        rule_basic::valid(self.alloc, flat, self.main.store(), line)
     }
 
     /// Whether the verdict is shown by the lines before it.
@@ -286,6 +298,8 @@ impl LogState {
             } => self
                 .main
                 .open_child(self.alloc, flat, *id, *parent, literal)?,
+            Line::Infer { result, .. } => self.main.conclude(result)?,
+            Line::Floor { .. } => self.main.raise_focus(flat),
             Line::CloseFloor | Line::Violated { .. } => self.main.close_focus(),
             Line::Sol {
                 denominator,

@@ -1,7 +1,10 @@
 //! The nodes of a log's tree.
-use sm_flat::Literal;
+use crate::objectives::raise_first;
+use sm_flat::{Flat, Literal};
 use sm_frac::Frac;
 use sm_step::Short;
+use sm_store::Store;
+use std::alloc::AllocError;
 use std::marker::Model;
 
 /// How far a node was split.
@@ -39,13 +42,14 @@ impl Model for Node {
 }
 
 impl Node {
-    ghost use Rattle.std.specs.Prelude.{◌≡◌, ◌≤◌, ◌^◌, ◌↔◌, map, unsigned_abs, IsTrue, IfSome, IfNone};
+    ghost use Rattle.std.specs.Prelude.{◌≡◌, ◌≤◌, ◌^◌, ◌↔◌, length, map, unsigned_abs, IsTrue, IfSome, IfNone, OnOk, OnErr};
     ghost use Rattle.sm_kinds.specs.Literals.{complement};
     ghost use Rattle.sm_kinds.specs.declared.literal.Literal.{Literal as Stated};
     ghost use Rattle.sm_step.specs.Verdicts.{parts_of};
     ghost use Rattle.sm_rules.specs.Nodes.{TakesChild};
     ghost use Rattle.sm_rules.specs.Halves.{HasOneChild};
-    ghost use Rattle.sm_rules.specs.KeptNodes.{IsStatusKnown, marked};
+    ghost use Rattle.sm_rules.specs.KeptNodes.{IsStatusKnown, marked, narrowed_node, raised_node};
+    ghost use Rattle.sm_store.specs.Stores.{IsStoreOf};
 
     /// The number.
     pub(crate) fn number(&self) -> u64
@@ -91,5 +95,21 @@ impl Node {
             Status::Open => Status::Half(*literal),
             Status::Half(first) | Status::Split(first) => Status::Split(first),
         };
+    }
+    /// These literals narrow its store too.
+    pub(crate) fn narrow(&mut self, literals: &[Literal]) -> Result<(), AllocError>
+        ensures ok { OnOk result (self.new ≡ narrowed_node self.old literals.now) }
+        ensures err { OnErr result (self.new ≡ self.old) }
+    {
+        self.literals.extend_from_slice(literals)
+    }
+
+    /// Its first floor is raised to what the first goal costs at least over the boxes of its store, where that is greater.
+    pub(crate) fn raise(&mut self, flat: &Flat, store: &Store)
+        requires of { IsStoreOf flat.now store.now }
+        requires floors { length self.old.floors ≡ length flat.now.goals }
+        ensures { self.new ≡ raised_node flat.now store.now self.old }
+    {
+        raise_first(&mut self.floors, flat.goals(), store);
     }
 }

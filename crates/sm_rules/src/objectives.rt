@@ -9,6 +9,7 @@ ghost use Rattle.sm_flat.specs.Goals.{goal_at, minimised, worth, cost, IsBetter,
 ghost use Rattle.sm_store.specs.Stores.{extent_at};
 ghost use Rattle.sm_step.specs.Verdicts.{parts_of};
 ghost use Rattle.sm_rules.specs.Floors.{number_of, numbers_of, greater, raised, Reaches, EndsNode};
+ghost use Rattle.sm_rules.specs.Trees.{raised_first};
 ghost use Rattle.sm_rules.specs.Objectives.{IsGoalOver, least_product, least_sum, least_cost, least_costs, is_discrete, is_whole, level_of, levels};
 
 use sm_flat::{Assignment, Flat, Goal, Sense, VarKind, value};
@@ -145,6 +146,17 @@ pub(crate) fn raise_floors(floors: &mut Vec<Frac>, goals: &[Goal], store: &Store
     for level in 0..goals.len() {
         let least = least_floor(store, &goals[level]);
         floors[level] = greater(floors[level], least);
+    }
+}
+
+/// Raises the first floor to what the first goal costs at least over the boxes of the store, where that is greater.
+pub(crate) fn raise_first(floors: &mut Vec<Frac>, goals: &[Goal], store: &Store)
+    requires goals { All (IsGoalOver (length store.now)) goals.now }
+    requires each { length floors.old.items ≡ length goals.now }
+    ensures { map parts_of floors.new.items ≡ raised_first goals.now store.now (map parts_of floors.old.items) }
+{
+    if let Some(goal) = goals.first() {
+        floors[0] = greater(floors[0], least_floor(store, goal));
     }
 }
 

@@ -12,7 +12,7 @@ use sm_store::Store;
 use std::alloc::{AllocError, Global};
 
 /// Narrows a store by literals, in order.
-fn narrow_by(store: &mut Store, literals: &[Literal])
+pub(crate) fn narrow_by(store: &mut Store, literals: &[Literal])
     requires { AreKnown (length store.old) literals.now }
     ensures { store.new ≡ narrow_all store.old literals.now }
 {

@@ -2,22 +2,23 @@
 ghost use Rattle.std.specs.Prelude.{◌≡◌, ◌≢◌, ◌+◌, ◌<◌, ◌≤◌, ◌^◌, ◌↔◌, ℕ, true, false, All, Contains, IsTrue, IsSome, IfOk, OnOk, OnErr, IfSome, IfNone, length, map, drop, slice_set, unsigned_abs};
 ghost use Rattle.sm_flat.specs.Limits.{IsFlat};
 ghost use Rattle.sm_kinds.specs.Literals.{complement};
-ghost use Rattle.sm_store.specs.Stores.{Extent, declared, narrow, IsStoreOf};
+ghost use Rattle.sm_store.specs.Stores.{Extent, declared, narrow, narrow_all, IsStoreOf};
 ghost use Rattle.sm_step.specs.Verdicts.{parts_of};
 ghost use Rattle.sm_rules.specs.Nodes.{NodeView, KeptNode, no_node, is_split, TakesChild, LawfulChild};
 ghost use Rattle.sm_rules.specs.Halves.{HasOneChild, IsLastHalf};
 ghost use Rattle.sm_rules.specs.Sound.{IsNodeOf};
-ghost use Rattle.sm_rules.specs.Trees.{node_at, without_node, pruned, has_no_child, is_done, focus_of, close_focus, open_child, root_of, IsRefuted};
+ghost use Rattle.sm_rules.specs.Trees.{node_at, without_node, pruned, has_no_child, is_done, focus_of, has_empty, close_focus, with_focus, narrowed_focus, narrow_focus, raise_focus, open_child, root_of, IsRefuted};
 ghost use Rattle.sm_rules.specs.Places.{AreRising, IsPlace, at_place};
-ghost use Rattle.sm_rules.specs.KeptNodes.{IsNodeKnown, with_kept_child, store_or, nodes_over};
+ghost use Rattle.sm_rules.specs.KeptNodes.{AreKnown, IsNodeKnown, IsOutcomeKnown, with_kept_child, with_narrowed, with_raised, store_or, nodes_over};
+ghost use Rattle.sm_rules.specs.Transitions.{concluded};
 
 use crate::laws;
 use crate::node::{Node, Status};
 use crate::objectives::{least_floors, raise_floors};
-use crate::path::moved_store;
+use crate::path::{moved_store, narrow_by};
 use sm_flat::{Flat, Literal};
 use sm_frac::Frac;
-use sm_step::Short;
+use sm_step::{Outcome, Short};
 use sm_store::Store;
 use std::alloc::{AllocError, Global};
 use std::marker::Model;
@@ -181,6 +182,34 @@ fn open_under(
     Ok(())
 }
 
+/// Narrows the node at a place by the literals, and with it the store, which is the node's. After want of memory all is as before.
+fn narrow_at(
+    nodes: &mut Vec<Node>,
+    store: &mut Store,
+    place: usize,
+    literals: &[Literal],
+) -> Result<(), AllocError>
+    requires place { place < length nodes.old.items }
+    requires known { AreKnown (length store.old) literals.now }
+    ensures nodes { OnOk result (nodes.new.items ≡ with_narrowed nodes.old.items place literals.now) }
+    ensures store { OnOk result (store.new ≡ narrow_all store.old literals.now) }
+    ensures err { OnErr result ((nodes.new.items ≡ nodes.old.items) × (store.new ≡ store.old)) }
+{
+    nodes[place].narrow(literals)?;
+    narrow_by(store, literals);
+    Ok(())
+}
+
+/// Raises the first floor of the node at a place, whose store this is.
+fn raise_at(flat: &Flat, nodes: &mut Vec<Node>, store: &Store, place: usize)
+    requires place { place < length nodes.old.items }
+    requires of { IsStoreOf flat.now store.now }
+    requires floors { length (at_place nodes.old.items place).floors ≡ length flat.now.goals }
+    ensures { nodes.new.items ≡ with_raised flat.now store.now nodes.old.items place }
+{
+    nodes[place].raise(flat, store);
+}
+
 /// Whether the literal may open a first child under an open node, whose store is the first of these, where there is one.
 fn splits_either(moved: &Option<Store>, store: &Store, literal: &Literal) -> bool
     ensures { IsTrue result ↔ LawfulChild (store_or moved.now store.now) Status.Open literal.now }
@@ -325,6 +354,71 @@ impl Tree {
     {
         if let Some(place) = place_of(&self.nodes, self.focus) {
             drop_refuted(&mut self.nodes, place);
+        }
+    }
+
+    /// Narrows the focus by the literals. After want of memory all is as before.
+    fn narrow(&mut self, literals: &[Literal]) -> Result<(), AllocError>
+        requires open { (focus_of self.old).status ≡ Status.Open }
+        requires known { AreKnown (length (focus_of self.old).store) literals.now }
+        ensures ok { OnOk result (self.new ≡ with_focus self.old (narrowed_focus literals.now self.old)) }
+        ensures err { OnErr result (self.new ≡ self.old) }
+    {
+        let Some(place) = place_of(&self.nodes, self.focus) else {
+            unreachable!()
+        };
+        narrow_at(&mut self.nodes, &mut self.store, place, literals)?;
+        Ok(())
+    }
+
+    /// Whether some variable has no value at the focus.
+    fn is_empty(&self) -> bool
+        requires { (focus_of self.now).status ≡ Status.Open }
+        ensures { result ≡ has_empty (focus_of self.now).store }
+    {
+        self.store().empty()
+    }
+
+    /// Narrows the focus by the literals, and closes it where a variable has no value then. After want of memory all is as before.
+    fn narrow_focus(&mut self, literals: &[Literal]) -> Result<(), AllocError>
+        requires open { (focus_of self.old).status ≡ Status.Open }
+        requires kept { pruned self.old.nodes ≡ self.old.nodes }
+        requires known { AreKnown (length (focus_of self.old).store) literals.now }
+        ensures ok { OnOk result (self.new ≡ narrow_focus literals.now self.old) }
+        ensures err { OnErr result (self.new ≡ self.old) }
+    {
+        self.narrow(literals)?;
+        if self.is_empty() {
+            self.close_focus();
+        }
+        Ok(())
+    }
+
+    /// Closes or narrows the focus, as an inference came out. After want of memory all is as before.
+    pub(crate) fn conclude(&mut self, outcome: &Outcome) -> Result<(), AllocError>
+        requires open { (focus_of self.old).status ≡ Status.Open }
+        requires kept { pruned self.old.nodes ≡ self.old.nodes }
+        requires known { IsOutcomeKnown (length (focus_of self.old).store) outcome.now }
+        ensures ok { OnOk result (self.new ≡ concluded outcome.now self.old) }
+        ensures err { OnErr result (self.new ≡ self.old) }
+    {
+        match outcome {
+            Outcome::Close => {
+                self.close_focus();
+                Ok(())
+            }
+            Outcome::Literals(literals) => self.narrow_focus(literals.as_slice()),
+        }
+    }
+
+    /// Raises the focus's first floor to what the first goal costs at least over the boxes of its store, where that is greater.
+    pub(crate) fn raise_focus(&mut self, flat: &Flat)
+        requires open { (focus_of self.old).status ≡ Status.Open }
+        requires nodes { All (λ (n : NodeView). IsNodeOf flat.now n) self.old.nodes }
+        ensures { self.new ≡ raise_focus flat.now self.old }
+    {
+        if let Some(place) = place_of(&self.nodes, self.focus) {
+            raise_at(flat, &mut self.nodes, &self.store, place);
         }
     }
 

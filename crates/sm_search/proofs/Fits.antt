@@ -165,6 +165,8 @@ fit_after m s l fit first ok of = by_line l first ok of (sound_after m (λ _. tr
     by_line : (l : Line) → IsOwn s l → Allowed m s l → IsOf m (after m s l) → Sound m (λ _. true) (after m s l) → IsFit m (after m s l)
     by_line (line.Header version) first ok of sound = record { of = of; discrete = fit.discrete; sound = sound; says = rw ok.due.running tt; whole = fit.whole; only = fit.only; filled = fit.filled; raised = fit.raised; near = fit.near }
     by_line (line.Node id parent l) first ok of sound = opened m s fit id parent l first ok of sound
+    by_line (line.Infer rule outcome) first ok of sound = absurd first
+    by_line (line.Floor terms) first ok of sound = absurd first
     by_line line.CloseFloor first ok of sound = closed m s fit line.CloseFloor refl ok.due.running of sound
     by_line (line.Violated k) first ok of sound = closed m s fit (line.Violated k) refl ok.due.running of sound
     by_line (line.Sol d vs) first ok of sound = record { of = of; discrete = fit.discrete; sound = sound; says = rw ok.due.running tt; whole = first; only = fit.only; filled = fit.filled; raised = fit.raised; near = fit.near }

@@ -1,5 +1,5 @@
 -- Lines put one after another.
-use Rattle.std.proofs.Common.{◌≡◌, ℕ, ◌+◌, ◌^◌, ◌<◌, ◌≤◌, List, [], ◌∷◌, ◌++◌, Option, Some, None, length, take, refl, sym, ap, ◌∙◌, append_assoc, arith, inl, inr, length-append, append-nil, add-zero, subst}
+use Rattle.std.proofs.Common.{◌≡◌, ℕ, ◌+◌, ◌^◌, ◌<◌, ◌≤◌, Bool, true, false, cond, List, [], ◌∷◌, ◌++◌, Option, Some, None, length, take, refl, sym, ap, ◌∙◌, append_assoc, arith, inl, inr, length-append, append-nil, add-zero, subst}
 use Rattle.std.specs.Prelude.{codes}
 use Rattle.std.proofs.lemmas.Grind.{flat_map-append}
 use Rattle.std.specs.Io.KnownBytes.{Appends}
@@ -10,9 +10,13 @@ use Rattle.sm_step.specs.declared.line.Line.{Line}
 use Rattle.std.proofs.lemmas.List.Elements.{All-nil, All-cons, All-append}
 use Rattle.sm_step.specs.Text.{text_of, body_text}
 use Rattle.sm_step.specs.Grammar.{IsLine}
+use Rattle.sm_store.specs.Stores.{narrow_all}
+use Rattle.sm_step.specs.declared.line.Outcome.{Outcome}
+use Rattle.sm_step.specs.declared.line.Outcome.TheVariants.{Close, Literals}
+use Rattle.sm_rules.specs.Trees.{Tree, focus_of, has_empty, close_focus, with_focus, narrowed_focus}
 use Rattle.sm_rules.specs.States.{State}
 use Rattle.sm_rules.specs.Laws.{Allowed}
-use Rattle.sm_rules.specs.Transitions.{after, Replays}
+use Rattle.sm_rules.specs.Transitions.{concluded, after, Replays}
 use Rattle.sm_search.specs.declared.refusal.WorkRefusal.{WorkRefusal}
 use Rattle.sm_search.specs.declared.refusal.WorkRefusal.TheVariants.{WriteFault, LogTooLong, OutOfMemory}
 use Rattle.sm_step.specs.declared.line.Line.TheVariants as line
@@ -123,9 +127,19 @@ stopped_more m p q x y z a b c r le one two = record {
 
 -- ---- counts
 
+count_concluded : (o : Outcome) (t : Tree) → (concluded o t).count ≡ t.count
+count_concluded Close t = refl
+count_concluded (Literals ls) t = by_test (has_empty (narrow_all (focus_of t).store ls))
+  where
+    by_test : (b : Bool) → (cond b (close_focus t) (with_focus t (narrowed_focus ls t))).count ≡ t.count
+    by_test true = refl
+    by_test false = refl
+
 count_after : (m : FlatModel) (s : State) (l : Line) → (after m s l).main.count ≤ s.main.count + 1
 count_after m s (line.Header version) = omega arith
 count_after m s (line.Node id parent l) = omega arith
+count_after m s (line.Infer rule outcome) = let same = count_concluded outcome s.main in omega (arith, same)
+count_after m s (line.Floor terms) = omega arith
 count_after m s line.CloseFloor = omega arith
 count_after m s (line.Violated k) = omega arith
 count_after m s (line.Sol d vs) = omega arith

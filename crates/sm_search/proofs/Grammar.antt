@@ -193,6 +193,8 @@ verdict_line m s (verdict.Range bound best) fit law = absurd law
 pub own_line : (m : FlatModel) (p : Place) (l : Line) → IsFit m p.state → IsCounted p → Allowed m p.state l → IsOwn p.state l → p.bytes + length (text_of l) ≤ 2 ^ 40 → IsLine l
 own_line m p (line.Header version) fit counted ok own limit = rw ok.law (small_line (line.Header 1) refl (let short = both 10 40 (codes "simpl-log ") (whole_text (pos 1)) (omega arith) (whole_short (pos 1) (natural_whole 1 (omega arith))) in omega (arith, short)))
 own_line m p (line.Node id parent l) fit counted ok own limit = node_line m p id parent l fit counted ok limit
+own_line m p (line.Infer rule outcome) fit counted ok own limit = absurd own
+own_line m p (line.Floor terms) fit counted ok own limit = absurd own
 own_line m p line.CloseFloor fit counted ok own limit = small_line line.CloseFloor tt (omega arith)
 own_line m p (line.Violated k) fit counted ok own limit =
     let within = slice_get_within m.constraints k ok.law.constraint ok.law.is in

@@ -60,8 +60,11 @@ pub record IsFit (m : FlatModel) (s : State) : Type 0 where
   pub near : All (λ (n : NodeView). IsNear n.status) s.main.nodes
 
 -- A line of this loop's own: a child opens under the focus, or where the focus isn't open any more, and a solution has whole values.
+-- It infers nothing, and raises no floor but by a child.
 abbrev pub IsOwn : State → Line → Type 0
 IsOwn s (line.Node id parent literal) = (parent ≡ s.main.focus) ⊎ ((focus_of s.main).status ≢ Open)
+IsOwn s (line.Infer rule outcome) = ⊥
+IsOwn s (line.Floor terms) = ⊥
 IsOwn s (line.Sol denominator values) = denominator ≡ pos 1
 IsOwn s _ = Unit {0}
 
